@@ -1,0 +1,5 @@
+pub mod Grid
+pub mod Site
+pub mod Step
+pub mod Run
+pub mod Turn
