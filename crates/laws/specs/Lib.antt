@@ -7,3 +7,6 @@ pub mod Limit
 pub mod Passes
 pub mod Looks
 pub mod Parts
+pub mod Signed
+pub mod Places
+pub mod Copies

@@ -1,0 +1,2 @@
+// One step of water over a site.
+mod words;
