@@ -4,3 +4,7 @@ pub mod Grids
 pub mod States
 pub mod Checks
 pub mod Limit
+pub mod Flat
+pub mod Between
+pub mod Values
+pub mod Facts
