@@ -10,3 +10,8 @@ pub mod Parts
 pub mod Signed
 pub mod Places
 pub mod Copies
+pub mod Flat
+pub mod Gather
+pub mod Between
+pub mod Values
+pub mod Facts
