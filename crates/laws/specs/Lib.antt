@@ -15,3 +15,4 @@ pub mod Gather
 pub mod Between
 pub mod Values
 pub mod Facts
+pub mod Sizes
