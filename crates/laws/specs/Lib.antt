@@ -16,3 +16,4 @@ pub mod Between
 pub mod Values
 pub mod Facts
 pub mod Sizes
+pub mod Transfers
