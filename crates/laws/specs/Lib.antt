@@ -5,3 +5,4 @@ pub mod States
 pub mod Checks
 pub mod Limit
 pub mod Sizes
+pub mod Exact
