@@ -6,3 +6,4 @@ pub mod Checks
 pub mod Limit
 pub mod Sizes
 pub mod Exact
+pub mod Bounded
