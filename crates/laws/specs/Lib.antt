@@ -19,3 +19,4 @@ pub mod Sizes
 pub mod Transfers
 pub mod Exact
 pub mod Bounded
+pub mod Behind
