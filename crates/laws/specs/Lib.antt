@@ -7,3 +7,4 @@ pub mod Limit
 pub mod Sizes
 pub mod Exact
 pub mod Bounded
+pub mod Linear
