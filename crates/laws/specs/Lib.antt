@@ -20,3 +20,4 @@ pub mod Transfers
 pub mod Exact
 pub mod Bounded
 pub mod Behind
+pub mod Linear
