@@ -7,3 +7,4 @@ pub mod Limit
 pub mod Passes
 pub mod Looks
 pub mod Parts
+pub mod Reading
