@@ -1,1 +1,2 @@
 pub mod Tide
+pub mod Faces
