@@ -8,3 +8,12 @@ pub mod Passes
 pub mod Looks
 pub mod Parts
 pub mod Reading
+pub mod Signed
+pub mod Places
+pub mod Copies
+pub mod Flat
+pub mod Gather
+pub mod Between
+pub mod Values
+pub mod Facts
+pub mod Sizes

@@ -3,3 +3,9 @@ pub mod Site
 pub mod Step
 pub mod Run
 pub mod Turn
+pub mod Search
+pub mod Sheet
+pub mod Text
+pub mod Play
+pub mod Calls
+pub mod Starred

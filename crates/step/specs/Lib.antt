@@ -1,2 +1,3 @@
 pub mod Tide
 pub mod Faces
+pub mod Places

@@ -1,2 +1,3 @@
-// One step of a site that passes the first three checks.
+// One step of water over a site.
+mod words;
 mod faces;
