@@ -1,13 +1,11 @@
--- A list that holds a water in a state's layout, read by index: which place the word is of, and that the index is within the list.
+-- A list that holds a water in a state's layout, read by index: which place the word is of.
 use Prim.Native.Nat.{ℕ, suc, _+_, _*_, _≤_, _<_}
 use mathlib.Core.Path.{_≡_, sym, ap, _∙_}
 use mathlib.Core.List.{List}
-use native.Mathlib.Omega.{arith}
 use lib.IntN.{ℤ, pos}
 use lib.ListN.{length, getD}
-use lib.Arith.{digits-lt}
 use Rattle.rules.specs.declared.Card.{Card}
-use Rattle.rules.specs.Site.{Water, readGround, readState, writeState, stateLength}
+use Rattle.rules.specs.Site.{Water, readState, writeState, stateLength}
 use Rattle.laws.specs.States.{height-back, east-back, north-back, length-state, write-read}
 
 -- a record, so that the card and the water are inferred from it
@@ -22,7 +20,6 @@ module _ {c : Card} {w : Water} {l : List ℤ} (h : Holds c w l) where
   long-of = ap length (h .is) ∙ length-state c w
 
   module _ (i j : ℕ) where
-    -- the word at an index
     pub height-read : {k : ℕ} → i < c .columns → j < c .rows → k ≡ j * c .columns + i → getD l k (pos 0) ≡ w .height i j
     unfolding readState
     height-read hi hj e = rw (h .is, e) (height-back c w i j hi hj)
@@ -35,24 +32,3 @@ module _ {c : Card} {w : Water} {l : List ℤ} (h : Holds c w l) where
         → getD l k (pos 0) ≡ w .north i j
     unfolding readState
     north-read hi hj e = rw (h .is, e) (north-back c w i j hi hj)
-
-    -- is within the list
-    pub height-in : i < c .columns → j < c .rows → j * c .columns + i < length l
-    unfolding stateLength
-    height-in hi hj = omega (arith, long-of, digits-lt hj hi)
-
-    pub east-in : i ≤ c .columns → j < c .rows → c .rows * c .columns + (j * suc (c .columns) + i) < length l
-    unfolding stateLength
-    east-in hi hj =
-        let h : i < suc (c .columns) = omega arith in
-        omega (arith, long-of, digits-lt hj h)
-
-    pub north-in : i < c .columns → j ≤ c .rows → c .rows * c .columns + (c .rows * suc (c .columns) + (j * c .columns + i)) < length l
-    unfolding stateLength
-    north-in hi hj =
-        let h : j < suc (c .rows) = omega arith in
-        omega (arith, long-of, digits-lt h hi)
-
-pub ground-read : (c : Card) (g : List ℤ) (i j : ℕ) {k : ℕ} → k ≡ j * c .columns + i → getD g k (pos 0) ≡ readGround c g i j
-unfolding readGround
-ground-read c g i j e = ap (λ (n : ℕ). getD g n (pos 0)) e

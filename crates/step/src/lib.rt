@@ -1,3 +1,3 @@
 // One step of water over a site.
-mod words;
 mod faces;
+mod words;

@@ -1,14 +1,14 @@
+-- `step::faces::gather` meets its contract: what was read at each place is the field.
+use mathlib.Core.Path.{_≡_}
 use borrow.Author.Needs.{needs}
+use Rattle.rules.specs.declared.Face.{Face}
+use Rattle.laws.specs.Signed.{word-back}
 use Rattle.step.specs.Faces.{faceAt}
 use Rattle.step.proofs.faces.gather.Statement.{statement}
 use Rattle.step.proofs.faces.gather.Tie as tie
 
-use mathlib.Core.Path.{_≡_}
-use mir.Facts.{toZ-ofZ}
-use mir.Syntax.{w32}
-use Rattle.rules.specs.declared.Face.{Face}
-
-pub same-face : {f g : Face}
+-- two faces that agree in each number
+same-face : {f g : Face}
     → f .oldK ≡ g .oldK
     → f .oldL ≡ g .oldL
     → f .newK ≡ g .newK
@@ -130,22 +130,22 @@ returns : tie.Need-returns
 unfolding faceAt
 returns c =
     same-face
-    (toZ-ofZ (record { sfits = c .before .before .before .before .before .before .before .before .before .before .before .before .before .before .before .t18 .given }))
-    (toZ-ofZ (record { sfits = c .before .before .before .before .before .before .before .before .before .before .before .before .before .before .t21 .given }))
-    (toZ-ofZ (record { sfits = c .before .before .before .before .before .before .before .before .before .before .before .before .before .t24 .given }))
-    (toZ-ofZ (record { sfits = c .before .before .before .before .before .before .before .before .before .before .before .before .t27 .given }))
-    (toZ-ofZ (record { sfits = c .before .before .before .before .before .before .before .before .before .before .before .t30 .given }))
-    (toZ-ofZ (record { sfits = c .before .before .before .before .before .before .before .before .before .before .t33 .given }))
-    (toZ-ofZ (record { sfits = c .before .before .before .before .before .before .before .before .before .t36 .given }))
-    (toZ-ofZ (record { sfits = c .before .before .before .before .before .before .before .before .t39 .given }))
-    (toZ-ofZ (record { sfits = c .before .before .before .before .before .before .before .t42 .given }))
-    (toZ-ofZ (record { sfits = c .before .before .before .before .before .before .t45 .given }))
-    (toZ-ofZ (record { sfits = c .before .before .before .before .before .t48 .given }))
-    (toZ-ofZ (record { sfits = c .before .before .before .before .t51 .given }))
-    (toZ-ofZ (record { sfits = c .before .before .before .t54 .given }))
-    (toZ-ofZ (record { sfits = c .before .before .t57 .given }))
-    (toZ-ofZ (record { sfits = c .before .t60 .given }))
-    (toZ-ofZ (record { sfits = c .t63 .given }))
+    (word-back _ (c .before .before .before .before .before .before .before .before .before .before .before .before .before .before .before .t18 .given))
+    (word-back _ (c .before .before .before .before .before .before .before .before .before .before .before .before .before .before .t21 .given))
+    (word-back _ (c .before .before .before .before .before .before .before .before .before .before .before .before .before .t24 .given))
+    (word-back _ (c .before .before .before .before .before .before .before .before .before .before .before .before .t27 .given))
+    (word-back _ (c .before .before .before .before .before .before .before .before .before .before .before .t30 .given))
+    (word-back _ (c .before .before .before .before .before .before .before .before .before .before .t33 .given))
+    (word-back _ (c .before .before .before .before .before .before .before .before .before .t36 .given))
+    (word-back _ (c .before .before .before .before .before .before .before .before .t39 .given))
+    (word-back _ (c .before .before .before .before .before .before .before .t42 .given))
+    (word-back _ (c .before .before .before .before .before .before .t45 .given))
+    (word-back _ (c .before .before .before .before .before .t48 .given))
+    (word-back _ (c .before .before .before .before .t51 .given))
+    (word-back _ (c .before .before .before .t54 .given))
+    (word-back _ (c .before .before .t57 .given))
+    (word-back _ (c .before .t60 .given))
+    (word-back _ (c .t63 .given))
     (search needs)
     (search needs)
 
