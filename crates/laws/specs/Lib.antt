@@ -17,3 +17,6 @@ pub mod Between
 pub mod Values
 pub mod Facts
 pub mod Sizes
+pub mod Transfers
+pub mod Exact
+pub mod Bounded

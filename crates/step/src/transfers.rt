@@ -1,0 +1,88 @@
+// What crosses each face in one step: the part of the tide behind the heights. One division for each inner face; none on the walls.
+ghost use mathlib.Core.Path.{_≡_};
+ghost use Prim.Native.Nat.{suc};
+ghost use Rattle.rules.specs.Grid.{grid};
+ghost use Rattle.rules.specs.Site.{readState};
+ghost use Rattle.rules.specs.Step.{eastTransfer, northTransfer};
+ghost use Rattle.step.specs.Tide.{crossings};
+ghost use Rattle.step.specs.Known.{LimitedEast, LimitedNorth, EastRoom, NorthRoom, FacesRoom};
+use rules::Card;
+use super::words;
+
+// What crosses an eastward face.
+fn east_transfer(card: Card, state: &[i32], i: usize, j: usize) -> i32
+    requires { ⌜ LimitedEast card (now state) i j ⌝ }
+    ensures { λ r. ⌜ r ≡ eastTransfer card (readState card (now (state .entry))) i j ⌝ }
+{
+    let columns = card.columns as usize;
+    if i == 0 {
+        return 0;
+    }
+    if i == columns {
+        return 0;
+    }
+    let west = words::height_at(card, state, i - 1, j);
+    let east = words::height_at(card, state, i, j);
+    let u = words::east_at(card, state, i, j);
+    face::transfer(west, east, u, card.dt, card.dx) as i32
+}
+
+// What crosses a northward face.
+fn north_transfer(card: Card, state: &[i32], i: usize, j: usize) -> i32
+    requires { ⌜ LimitedNorth card (now state) i j ⌝ }
+    ensures { λ r. ⌜ r ≡ northTransfer card (readState card (now (state .entry))) i j ⌝ }
+{
+    let rows = card.rows as usize;
+    if j == 0 {
+        return 0;
+    }
+    if j == rows {
+        return 0;
+    }
+    let south = words::height_at(card, state, i, j - 1);
+    let north = words::height_at(card, state, i, j);
+    let u = words::north_at(card, state, i, j);
+    face::transfer(south, north, u, card.dt, card.dy) as i32
+}
+
+// What crosses every eastward face.
+fn eastward(card: Card, state: &[i32], part: &mut [i32])
+    requires { ⌜ EastRoom card (now state) (now part) ⌝ }
+    ensures { λ r. ⌜ now (part .exit) ≡ grid (suc (card .columns)) (card .rows) (eastTransfer card (readState card (now (state .entry)))) ⌝ }
+{
+    let columns = card.columns as usize;
+    let rows = card.rows as usize;
+    let across = columns + 1;
+    for j in 0..rows {
+        for i in 0..across {
+            words::put(part, across, i, j, east_transfer(card, state, i, j));
+        }
+    }
+}
+
+// What crosses every northward face.
+fn northward(card: Card, state: &[i32], part: &mut [i32])
+    requires { ⌜ NorthRoom card (now state) (now part) ⌝ }
+    ensures { λ r. ⌜ now (part .exit) ≡ grid (card .columns) (suc (card .rows)) (northTransfer card (readState card (now (state .entry)))) ⌝ }
+{
+    let columns = card.columns as usize;
+    let rows = card.rows as usize;
+    let up = rows + 1;
+    for j in 0..up {
+        for i in 0..columns {
+            words::put(part, columns, i, j, north_transfer(card, state, i, j));
+        }
+    }
+}
+
+// Both, in a part that starts behind the heights.
+pub fn transfers(card: Card, state: &[i32], part: &mut [i32])
+    requires { ⌜ FacesRoom card (now state) (now part) ⌝ }
+    ensures { λ r. ⌜ now (part .exit) ≡ crossings card (readState card (now (state .entry))) ⌝ }
+{
+    let columns = card.columns as usize;
+    let rows = card.rows as usize;
+    let faces = rows * (columns + 1);
+    eastward(card, state, &mut part[..faces]);
+    northward(card, state, &mut part[faces..]);
+}
