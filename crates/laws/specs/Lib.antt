@@ -7,6 +7,7 @@ pub mod Limit
 pub mod Passes
 pub mod Looks
 pub mod Parts
+pub mod Reading
 pub mod Signed
 pub mod Places
 pub mod Copies

@@ -1,2 +1,3 @@
+pub mod Around
 pub mod Sites
 pub mod Tides

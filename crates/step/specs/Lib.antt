@@ -1,3 +1,4 @@
 pub mod Tide
+pub mod Faces
 pub mod Places
 pub mod Known

@@ -1,4 +1,5 @@
 // One step of water over a site.
+mod faces;
 mod heights;
 mod look;
 mod transfers;
