@@ -5,3 +5,5 @@ pub mod States
 pub mod Checks
 pub mod Limit
 pub mod Runs
+pub mod Walls
+pub mod Keeps
