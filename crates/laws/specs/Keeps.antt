@@ -1,7 +1,7 @@
 -- A site that passes the first three checks, and whose step is accepted, passes them again.
-use Prim.Native.Nat.{ℕ, suc, _*_, _<_}
+use Prim.Native.Nat.{suc, _<_}
 use mathlib.Core.Path.{_≡_, ap₂, _∙_}
-use mathlib.Core.Bool.{Bool, true, _&&_}
+use mathlib.Core.Bool.{true, _&&_}
 use mathlib.Core.List.{List}
 use native.Mathlib.Nat.{le-refl}
 use native.Mathlib.Omega.{arith}
