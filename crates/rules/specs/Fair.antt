@@ -126,15 +126,16 @@ module _ (f : Face) where
       rw (e, mul-neg (pos (9806650 * dt)) (f .newL +ℤ f .groundL -ℤ (f .newK +ℤ f .groundK)))
       (neg-quot (pos (9806650 * dt) *ℤ (f .newL +ℤ f .groundL -ℤ (f .newK +ℤ f .groundK))) (pos (1000 * d)))
 
-  neg-cond : (b : Bool) (q s : ℤ) → cond b (pos 0) (negℤ q -ℤ negℤ s) ≡ negℤ (cond b (pos 0) (q -ℤ s))
-  neg-cond true q s = refl
-  neg-cond false q s = sym (negℤ-+ℤ q (negℤ s))
+  -- a difference whose first part is negated, less the negated second
+  neg-difference : (dry : Bool) (q q′ s : ℤ) → q′ ≡ negℤ q → cond dry (pos 0) (q′ -ℤ negℤ s) ≡ negℤ (cond dry (pos 0) (q -ℤ s))
+  neg-difference true q q′ s e = refl
+  neg-difference false q q′ s e = rw e (sym (negℤ-+ℤ q (negℤ s)))
 
   pub velocity-along : (dt d : ℕ) → newVelocity dt d (along f) ≡ negℤ (newVelocity dt d f)
   unfolding newVelocity along
   velocity-along dt d =
-      rw (carried-along, slope-along, +ℤ-comm (f .newL) (f .newK), neg-quot)
-      (neg-cond (isZero (f .newK +ℤ f .newL)) (quotZ (carried f) (f .newK +ℤ f .newL)) (slope dt d f))
+      rw (carried-along, slope-along, +ℤ-comm (f .newL) (f .newK))
+      (neg-difference (isZero (f .newK +ℤ f .newL)) (quotZ (carried f) (f .newK +ℤ f .newL)) _ (slope dt d f) (neg-quot (carried f) (f .newK +ℤ f .newL)))
 
   pub velocity-across : (dt d : ℕ) → newVelocity dt d (across f) ≡ newVelocity dt d f
   unfolding newVelocity across slope
