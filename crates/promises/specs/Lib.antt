@@ -1,0 +1,4 @@
+pub mod Mirror
+pub mod MirrorNumbers
+pub mod Swap
+pub mod SwapNumbers
