@@ -6,4 +6,5 @@ pub mod Checks
 pub mod Limit
 pub mod Runs
 pub mod Walls
+pub mod Lengths
 pub mod Keeps
