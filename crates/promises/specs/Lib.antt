@@ -3,3 +3,7 @@ pub mod MirrorNumbers
 pub mod Swap
 pub mod SwapNumbers
 pub mod Turning
+pub mod TakenTwice
+pub mod EastWest
+pub mod SwapAxes
+pub mod NorthSouth
