@@ -7,3 +7,5 @@ pub mod TakenTwice
 pub mod EastWest
 pub mod SwapAxes
 pub mod NorthSouth
+pub mod Demand3
+pub mod NeverInTheMiddle
