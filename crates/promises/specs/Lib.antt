@@ -9,3 +9,4 @@ pub mod SwapAxes
 pub mod NorthSouth
 pub mod Demand3
 pub mod NeverInTheMiddle
+pub mod StepsWanted
