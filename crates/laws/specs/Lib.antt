@@ -8,3 +8,4 @@ pub mod Runs
 pub mod Walls
 pub mod Lengths
 pub mod Keeps
+pub mod Maxima

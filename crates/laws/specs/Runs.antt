@@ -1,6 +1,6 @@
 -- The run, a step at a time: gone on, stopped or finished; how it begins; and what a loop over its steps carries.
-use Prim.Native.Nat.{ℕ, zero, suc, _+_, _-_, _≤_, _<_}
-use mathlib.Core.Path.{_≡_, refl, sym, ap, _∙_}
+use Prim.Native.Nat.{ℕ, zero, suc, _+_, _-_, _≤_, _<_, suc-le-suc, zero-le}
+use mathlib.Core.Path.{_≡_, refl, sym, ap, _∙_, subst}
 use mathlib.Core.List.{List}
 use native.Mathlib.Nat.{not-suc-le-zero}
 use native.Mathlib.Omega.{arith}
@@ -37,6 +37,17 @@ module _ (c : Card) (g : List ℤ) where
   unfolding runOn
   stopped n t s zero h e = absurd (not-suc-le-zero h)
   stopped n t s (suc r) h e = ap (taken n t s) e
+
+  -- what holds of the run after an accepted step, and of one that is stopped, holds of the run
+  pub by-step : (n : ℕ) (t : Tally) (s : List ℤ) (P : Outcome → Type 0)
+      → (stepNumber c g s ≡ 0 → P (runOn c g n (accepted t (peak c (nextState c g s))) (nextState c g s)))
+      → ((r : ℕ) → 0 < r → stepNumber c g s ≡ r → P (record { tally = stoppedFor t r; state = s }))
+      → P (runOn c g (suc n) t s)
+  by-step n t s P on off = go (stepNumber c g s) refl
+    where
+      go : (k : ℕ) → stepNumber c g s ≡ k → P (runOn c g (suc n) t s)
+      go zero e = subst P (sym (gone-on n t s e)) (on e)
+      go (suc r) e = subst P (sym (stopped n t s (suc r) (suc-le-suc zero-le) e)) (off (suc r) (suc-le-suc zero-le) e)
 
   -- ---- from the first three checks on
 

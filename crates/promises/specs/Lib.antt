@@ -10,3 +10,4 @@ pub mod NorthSouth
 pub mod Demand3
 pub mod NeverInTheMiddle
 pub mod StepsWanted
+pub mod Slices

@@ -1,6 +1,6 @@
 -- A run that passed the first three checks never meets 1 to 3 in its middle: its end state passes them too, and its reason is 0 or one of 4 to 7.
 -- And it does what it says: no more steps than wanted, all of them exactly where the reason is 0.
-use Prim.Native.Nat.{ℕ, zero, suc, _+_, _≤_, _<_, suc-le-suc, zero-le}
+use Prim.Native.Nat.{ℕ, zero, suc, _+_, _≤_, _<_}
 use mathlib.Core.Path.{_≡_, refl, sym, ap, subst}
 use mathlib.Core.Bool.{Bool, true, false}
 use mathlib.Core.List.{List}
@@ -12,7 +12,7 @@ use Rattle.rules.specs.Site.{check, readGround, readState}
 use Rattle.rules.specs.Step.{answer, limitKept, heightsFit, sharesFit, speedsFit, number, stepNumber, nextState}
 use Rattle.rules.specs.Run.{Outcome, peak, started, accepted, stoppedFor, runOn, run}
 use Rattle.laws.specs.Keeps.{keeps}
-use Rattle.laws.specs.Runs.{finished, gone-on, stopped, begun}
+use Rattle.laws.specs.Runs.{finished, by-step, begun}
 
 -- the numbers of a step
 pub data OfAStep : ℕ → Type 0 where
@@ -48,10 +48,10 @@ module _ (c : Card) (g : List ℤ) (wanted : ℕ) where
   abbrev FromHere : ℕ → Type 0
   FromHere n = (t : Tally) (s : List ℤ) → t .steps + n ≡ wanted → t .reason ≡ 0 → check c g s ≡ 0 → Ends c g wanted (runOn c g n t s)
 
-  stops : (n r : ℕ) (t : Tally) (s : List ℤ) → t .steps + suc n ≡ wanted → OfAStep (suc r) → check c g s ≡ 0
-      → Ends c g wanted (record { tally = stoppedFor t (suc r); state = s })
+  stops : (n r : ℕ) (t : Tally) (s : List ℤ) → t .steps + suc n ≡ wanted → 0 < r → OfAStep r → check c g s ≡ 0
+      → Ends c g wanted (record { tally = stoppedFor t r; state = s })
   unfolding stoppedFor
-  stops n r t s w k e = record {
+  stops n r t s w p k e = record {
     passes = e;
     reason = k;
     notMore = omega arith;
@@ -73,13 +73,10 @@ module _ (c : Card) (g : List ℤ) (wanted : ℕ) where
         allOfThem = λ r. omega arith;
         onlyThen = λ r. z;
       })
-  ends-on (suc n) t s w z e = go (stepNumber c g s) refl (ends-on n)
-    where
-      go : (k : ℕ) → stepNumber c g s ≡ k → FromHere n → Ends c g wanted (runOn c g (suc n) t s)
-      go zero k ih = subst (Ends c g wanted) (sym (gone-on c g n t s k)) (goes-on n ih t s w z e k)
-      go (suc r) k ih =
-          subst (Ends c g wanted) (sym (stopped c g n t s (suc r) (suc-le-suc zero-le) k))
-          (stops n r t s w (subst OfAStep k (step-numbers c g s)) e)
+  ends-on (suc n) t s w z e =
+      by-step c g n t s (Ends c g wanted)
+      (λ k. goes-on n (ends-on n) t s w z e k)
+      (λ r p k. stops n r t s w p (subst OfAStep k (step-numbers c g s)) e)
 
 pub ends : (c : Card) (g s : List ℤ) → check c g s ≡ 0 → Ends c g (c .steps) (run c g s)
 unfolding started

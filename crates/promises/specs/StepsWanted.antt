@@ -1,13 +1,17 @@
 -- A step does not look at the number of steps wanted: a card that wants another number has the same next states, numbers and greatest heights.
-use Prim.Native.Nat.{ℕ, zero, suc}
+use Prim.Native.Nat.{ℕ, zero, suc, _≤_}
 use mathlib.Core.Path.{_≡_, refl, ap}
+use mathlib.Core.Bool.{_&&_}
 use mathlib.Core.List.{List}
 use lib.IntN.{ℤ}
+use lib.Dec.{T, leb, le→leb, leb→le}
 use Rattle.rules.specs.declared.Card.{Card}
 use Rattle.rules.specs.Grid.{Field}
-use Rattle.rules.specs.Site.{Water, readGround, readState, writeState}
+use Rattle.rules.specs.Site.{Water, stateLength, readGround, readState, writeState, within, sizesFit, sidesFit, timesFit, cardFits, lengthsFit, groundsFit, depthsFit, facesFit, wallsStill, valuesFit, check}
 use Rattle.rules.specs.Step.{eastTransfer, northTransfer, newHeight, eastFace, northFace, newEast, newNorth, next, withinLimit, limitKept, heightsFit, sharesFit, speedsFit, number, stepNumber, nextState}
 use Rattle.rules.specs.Run.{peak}
+use Rattle.laws.specs.Tests.{true-of, to-T, and-both, and-left, and-right, three-of}
+use Rattle.laws.specs.Checks.{apart, together}
 
 -- the card, with n steps wanted
 abbrev pub wanting : Card → ℕ → Card
@@ -82,3 +86,26 @@ module _ (c : Card) (a b : ℕ) (g s : List ℤ) where
   pub same-peak : peak (wanting c a) s ≡ peak (wanting c b) s
   unfolding peak
   same-peak = refl
+
+  -- and any number in its range passes the checks where another did
+  times-fit : T (timesFit (wanting c a)) → b ≤ 10000 → T (timesFit (wanting c b))
+  unfolding timesFit
+  times-fit t h = and-both (within 1 1000 (c .dt)) (leb b 10000) (and-left (within 1 1000 (c .dt)) (leb a 10000) t) (le→leb b 10000 h)
+
+  pub same-check : check (wanting c a) g s ≡ 0 → b ≤ 10000 → check (wanting c b) g s ≡ 0
+  unfolding check cardFits sizesFit sidesFit lengthsFit stateLength valuesFit groundsFit depthsFit facesFit wallsStill readGround readState
+  same-check e h =
+      let p = apart _ _ _ e in
+      let f = three-of (sizesFit c) (sidesFit c) (timesFit (wanting c a)) (to-T (p .card)) in
+      together (record {
+        card = true-of _ (and-both (sizesFit c && sidesFit c) (timesFit (wanting c b)) (and-both (sizesFit c) (sidesFit c) (f .one) (f .two)) (times-fit (f .three) h));
+        lengths = p .lengths;
+        values = p .values;
+      })
+
+-- the number of steps wanted, of a site that passes
+pub steps-fit : (c : Card) (g s : List ℤ) → check c g s ≡ 0 → c .steps ≤ 10000
+unfolding check cardFits timesFit
+steps-fit c g s e =
+    let f = three-of (sizesFit c) (sidesFit c) (timesFit c) (to-T (apart _ _ _ e .card)) in
+    leb→le (c .steps) 10000 (and-right (within 1 1000 (c .dt)) (leb (c .steps) 10000) (f .three))

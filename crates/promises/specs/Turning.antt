@@ -1,6 +1,6 @@
 -- A turn whose single steps agree obeys demand 3; so does one turn after another.
-use Prim.Native.Nat.{ℕ, zero, suc, suc-le-suc, zero-le}
-use mathlib.Core.Path.{_≡_, refl, sym, ap, ap₂, _∙_}
+use Prim.Native.Nat.{ℕ, zero, suc}
+use mathlib.Core.Path.{_≡_, sym, ap, ap₂, _∙_}
 use mathlib.Core.List.{List}
 use lib.IntN.{ℤ}
 use Rattle.rules.specs.declared.Card.{Card}
@@ -9,7 +9,7 @@ use Rattle.rules.specs.Site.{check}
 use Rattle.rules.specs.Step.{stepNumber, nextState}
 use Rattle.rules.specs.Run.{peak, started, accepted, runOn}
 use Rattle.rules.specs.Turn.{Turn, turned, Obeys}
-use Rattle.laws.specs.Runs.{finished, gone-on, stopped, begun}
+use Rattle.laws.specs.Runs.{finished, gone-on, stopped, by-step, begun}
 
 -- what a turn does to one step: the turned site wants as many steps, passes the checks too, and its step has the same number, the next state turned
 -- and the same greatest height
@@ -24,18 +24,12 @@ module _ (t : Turn) (𝓛 : Lawful t) where
   runs : (c : Card) (g : List ℤ) (n : ℕ) (a : Tally) (s : List ℤ)
       → runOn (t .card c) (t .ground c g) n a (t .state c s) ≡ turned t c (runOn c g n a s)
   runs c g zero a s = finished (t .card c) (t .ground c g) a (t .state c s) ∙ ap (turned t c) (sym (finished c g a s))
-  runs c g (suc n) a s = go (stepNumber c g s) refl (runs c g n)
-    where
-      go : (k : ℕ) → stepNumber c g s ≡ k
-          → ((b : Tally) (v : List ℤ) → runOn (t .card c) (t .ground c g) n b (t .state c v) ≡ turned t c (runOn c g n b v))
-          → runOn (t .card c) (t .ground c g) (suc n) a (t .state c s) ≡ turned t c (runOn c g (suc n) a s)
-      go zero e ih =
-          gone-on (t .card c) (t .ground c g) n a (t .state c s) (𝓛 .numbers c g s ∙ e)
-          ∙ rw (𝓛 .states c g s, 𝓛 .peaks c (nextState c g s)) (ih (accepted a (peak c (nextState c g s))) (nextState c g s))
-          ∙ ap (turned t c) (sym (gone-on c g n a s e))
-      go (suc r) e ih =
-          stopped (t .card c) (t .ground c g) n a (t .state c s) (suc r) (suc-le-suc zero-le) (𝓛 .numbers c g s ∙ e)
-          ∙ ap (turned t c) (sym (stopped c g n a s (suc r) (suc-le-suc zero-le) e))
+  runs c g (suc n) a s =
+      by-step c g n a s (λ o. runOn (t .card c) (t .ground c g) (suc n) a (t .state c s) ≡ turned t c o)
+      (λ e.
+      gone-on (t .card c) (t .ground c g) n a (t .state c s) (𝓛 .numbers c g s ∙ e)
+      ∙ rw (𝓛 .states c g s, 𝓛 .peaks c (nextState c g s)) (runs c g n (accepted a (peak c (nextState c g s))) (nextState c g s)))
+      (λ r z e. stopped (t .card c) (t .ground c g) n a (t .state c s) r z (𝓛 .numbers c g s ∙ e))
 
   pub obeys : Obeys t
   obeys c g s e =
