@@ -11,3 +11,4 @@ pub mod Demand3
 pub mod NeverInTheMiddle
 pub mod StepsWanted
 pub mod Slices
+pub mod Promises

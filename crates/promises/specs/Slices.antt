@@ -18,7 +18,7 @@ use Rattle.laws.specs.Numbers.{leZ-refl}
 use Rattle.laws.specs.Grids.{max-right}
 use Rattle.laws.specs.Maxima.{max-absorbs, max-assoc}
 use Rattle.laws.specs.Runs.{finished, gone-on, stopped, by-step, begun}
-use Rattle.promises.specs.StepsWanted.{wanting, same-number, same-next, same-peak, same-check, steps-fit}
+use Rattle.promises.specs.StepsWanted.{wanting, same-peak, same-runs, same-check, steps-fit}
 use Rattle.promises.specs.NeverInTheMiddle.{ends}
 
 -- ---- what is promised
@@ -100,16 +100,6 @@ module _ (c : Card) (g : List ℤ) where
       (λ r h e. stopped c g (m + n) t s r h e ∙ sym (no-further n r (record { tally = stoppedFor t r; state = s }) h))
 
 -- ---- and of runs, whose cards want m + n, m and n steps
-
-same-runs : (c : Card) (a b : ℕ) (g : List ℤ) (n : ℕ) (t : Tally) (s : List ℤ) → runOn (wanting c a) g n t s ≡ runOn (wanting c b) g n t s
-same-runs c a b g zero t s = finished (wanting c a) g t s ∙ sym (finished (wanting c b) g t s)
-same-runs c a b g (suc n) t s =
-    by-step (wanting c b) g n t s (λ o. runOn (wanting c a) g (suc n) t s ≡ o)
-    (λ e.
-    gone-on (wanting c a) g n t s (same-number c a b g s ∙ e)
-    ∙ rw (same-next c a b g s, same-peak c a b g (nextState (wanting c b) g s))
-    (same-runs c a b g n (accepted t (peak (wanting c b) (nextState (wanting c b) g s))) (nextState (wanting c b) g s)))
-    (λ r h e. stopped (wanting c a) g n t s r h (same-number c a b g s ∙ e))
 
 module _ (c : Card) (g s : List ℤ) (m n : ℕ) where
   abbrev whole : Card

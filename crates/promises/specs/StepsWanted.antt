@@ -1,17 +1,19 @@
 -- A step does not look at the number of steps wanted: a card that wants another number has the same next states, numbers and greatest heights.
 use Prim.Native.Nat.{ℕ, zero, suc, _≤_}
-use mathlib.Core.Path.{_≡_, refl, ap}
+use mathlib.Core.Path.{_≡_, refl, sym, ap, _∙_}
 use mathlib.Core.Bool.{_&&_}
 use mathlib.Core.List.{List}
 use lib.IntN.{ℤ}
 use lib.Dec.{T, leb, le→leb, leb→le}
 use Rattle.rules.specs.declared.Card.{Card}
+use Rattle.rules.specs.declared.Tally.{Tally}
 use Rattle.rules.specs.Grid.{Field}
 use Rattle.rules.specs.Site.{Water, stateLength, readGround, readState, writeState, within, sizesFit, sidesFit, timesFit, cardFits, lengthsFit, groundsFit, depthsFit, facesFit, wallsStill, valuesFit, check}
 use Rattle.rules.specs.Step.{eastTransfer, northTransfer, newHeight, eastFace, northFace, newEast, newNorth, next, withinLimit, limitKept, heightsFit, sharesFit, speedsFit, number, stepNumber, nextState}
-use Rattle.rules.specs.Run.{peak}
+use Rattle.rules.specs.Run.{peak, accepted, runOn}
 use Rattle.laws.specs.Tests.{true-of, to-T, and-both, and-left, and-right, three-of}
 use Rattle.laws.specs.Checks.{apart, together}
+use Rattle.laws.specs.Runs.{finished, gone-on, stopped, by-step}
 
 -- the card, with n steps wanted
 abbrev pub wanting : Card → ℕ → Card
@@ -102,6 +104,17 @@ module _ (c : Card) (a b : ℕ) (g s : List ℤ) where
         lengths = p .lengths;
         values = p .values;
       })
+
+-- so the steps that are left lead to the same end
+pub same-runs : (c : Card) (a b : ℕ) (g : List ℤ) (n : ℕ) (t : Tally) (s : List ℤ) → runOn (wanting c a) g n t s ≡ runOn (wanting c b) g n t s
+same-runs c a b g zero t s = finished (wanting c a) g t s ∙ sym (finished (wanting c b) g t s)
+same-runs c a b g (suc n) t s =
+    by-step (wanting c b) g n t s (λ o. runOn (wanting c a) g (suc n) t s ≡ o)
+    (λ e.
+    gone-on (wanting c a) g n t s (same-number c a b g s ∙ e)
+    ∙ rw (same-next c a b g s, same-peak c a b g (nextState (wanting c b) g s))
+    (same-runs c a b g n (accepted t (peak (wanting c b) (nextState (wanting c b) g s))) (nextState (wanting c b) g s)))
+    (λ r h e. stopped (wanting c a) g n t s r h (same-number c a b g s ∙ e))
 
 -- the number of steps wanted, of a site that passes
 pub steps-fit : (c : Card) (g s : List ℤ) → check c g s ≡ 0 → c .steps ≤ 10000
