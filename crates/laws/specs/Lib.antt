@@ -4,3 +4,4 @@ pub mod Grids
 pub mod States
 pub mod Checks
 pub mod Limit
+pub mod Decimals
