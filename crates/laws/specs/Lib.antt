@@ -4,3 +4,6 @@ pub mod Grids
 pub mod States
 pub mod Checks
 pub mod Limit
+pub mod Laid
+pub mod Bytes
+pub mod Words
