@@ -5,3 +5,6 @@ pub mod States
 pub mod Checks
 pub mod Limit
 pub mod Decimals
+pub mod Laid
+pub mod Bytes
+pub mod Words
