@@ -9,3 +9,7 @@ pub mod Walls
 pub mod Lengths
 pub mod Keeps
 pub mod Maxima
+pub mod Decimals
+pub mod Laid
+pub mod Bytes
+pub mod Words
