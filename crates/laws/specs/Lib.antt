@@ -8,3 +8,8 @@ pub mod Decimals
 pub mod Laid
 pub mod Bytes
 pub mod Words
+pub mod Flat
+pub mod Gather
+pub mod Between
+pub mod Values
+pub mod Facts
