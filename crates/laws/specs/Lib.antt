@@ -13,3 +13,7 @@ pub mod Gather
 pub mod Between
 pub mod Values
 pub mod Facts
+pub mod Sizes
+pub mod Exact
+pub mod Bounded
+pub mod Linear
