@@ -1,22 +1,23 @@
 -- A site that passes the first three checks, and whose step is accepted, passes them again.
 use Prim.Native.Nat.{suc, _<_}
 use mathlib.Core.Path.{_≡_, ap₂, _∙_}
-use mathlib.Core.Bool.{_&&_}
+use mathlib.Core.Bool.{true, _&&_}
 use mathlib.Core.List.{List}
 use native.Mathlib.Nat.{le-refl}
 use native.Mathlib.Omega.{arith}
 use lib.IntN.{ℤ, pos}
 use lib.Signed.{leZ}
-use lib.Dec.{T}
+use lib.ListN.{length}
+use lib.Dec.{T, eqb, eqb-refl}
 use Rattle.rules.specs.declared.Card.{Card}
 use Rattle.rules.specs.Grid.{Field, all}
-use Rattle.rules.specs.Site.{Water, readGround, readState, writeState, isZero, groundsFit, depthsFit, facesFit, wallsStill, valuesFit, check}
+use Rattle.rules.specs.Site.{Water, cells, stateLength, readGround, readState, writeState, isZero, groundsFit, depthsFit, facesFit, wallsStill, valuesFit, lengthsFit, check}
 use Rattle.rules.specs.Step.{newHeight, newEast, newNorth, next, limitKept, heightsFit, sharesFit, speedsFit, number, stepNumber, nextState}
 use Rattle.laws.specs.Tests.{true-of, to-T, and-both, and-left, four-of, of-four}
 use Rattle.laws.specs.Grids.{all-intro, allAt-at, allAt-intro, all-same, allAt-same}
-use Rattle.laws.specs.States.{Alike, height-back, east-back, north-back}
+use Rattle.laws.specs.States.{Alike, height-back, east-back, north-back, length-state}
 use Rattle.laws.specs.Checks.{apart, together, accepted, sides}
-use Rattle.laws.specs.Lengths.{lengths, written-fits}
+use Rattle.laws.specs.Facts.{length-facts}
 use Rattle.laws.specs.Limit.{not-below}
 use Rattle.laws.specs.Walls.{east-wall, north-wall}
 
@@ -75,6 +76,14 @@ module _ (c : Card) (g : Field) (w : Water) where
         four = walls-next;
       })
 
+-- ---- a state that is written has the length that refusal 2 asks for
+
+pub written-fits : (c : Card) (g : List ℤ) (w : Water) → length g ≡ cells c → lengthsFit c g (writeState c w) ≡ true
+unfolding lengthsFit
+written-fits c g w e =
+    rw (e, length-state c w)
+    (rw (true-of (eqb (cells c) (cells c)) (eqb-refl (cells c))) (true-of (eqb (stateLength c) (stateLength c)) (eqb-refl (stateLength c))))
+
 -- ---- the checks
 
 pub keeps : (c : Card) (g s : List ℤ) → check c g s ≡ 0 → stepNumber c g s ≡ 0 → check c g (nextState c g s) ≡ 0
@@ -85,7 +94,7 @@ keeps c g s e k =
     let d = sides c (to-T (p .card)) in
     together (record {
       card = p .card;
-      lengths = written-fits c g n (lengths c g s (p .lengths) .ground);
+      lengths = written-fits c g n (length-facts c g s (p .lengths) .ground);
       values =
           values-alike c (readState c (writeState c n)) n (record { height = height-back c n; east = east-back c n; north = north-back c n }) (readGround c g)
           ∙ true-of _ (next-values c (readGround c g) (readState c s) (d .0) (d .1) (to-T (p .values)) k);

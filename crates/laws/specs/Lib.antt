@@ -6,7 +6,6 @@ pub mod Checks
 pub mod Limit
 pub mod Runs
 pub mod Walls
-pub mod Lengths
 pub mod Keeps
 pub mod Maxima
 pub mod Decimals

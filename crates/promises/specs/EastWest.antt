@@ -12,7 +12,7 @@ use Rattle.rules.specs.Turn.{eastWest}
 use Rattle.laws.specs.Grids.{length-grid, grid-same}
 use Rattle.laws.specs.States.{height-back, east-back, north-back, ground-back, write-same, peak-same, write-read, grid-read}
 use Rattle.laws.specs.Checks.{apart, together}
-use Rattle.laws.specs.Lengths.{written-fits}
+use Rattle.laws.specs.Keeps.{written-fits}
 use Rattle.promises.specs.Mirror.{Mirror, MirrorField, next-mirror}
 use Rattle.promises.specs.MirrorNumbers.{numbers, values-same}
 use Rattle.promises.specs.Turning.{Lawful}

@@ -1,6 +1,6 @@
 -- A run of m + n steps is a run of m steps and then one of n from where it ended, with the tallies joined: a host may run in slices, show how far
 -- it is, and get the same answer to the last micrometre.
-use Prim.Native.Nat.{ℕ, zero, suc, _+_, _<_}
+use Prim.Native.Nat.{ℕ, zero, suc, _+_, _≤_, _<_}
 use mathlib.Core.Path.{_≡_, refl, sym, ap, ap₂, _∙_, subst}
 use mathlib.Core.List.{List}
 use native.Mathlib.Nat.{add-zero, zero-add, suc-add, add-assoc, not-suc-le-zero}
@@ -17,8 +17,9 @@ use Rattle.rules.specs.Run.{Outcome, peak, started, accepted, stoppedFor, runOn
 use Rattle.laws.specs.Numbers.{leZ-refl}
 use Rattle.laws.specs.Grids.{max-right}
 use Rattle.laws.specs.Maxima.{max-absorbs, max-assoc}
+use Rattle.laws.specs.Facts.{check-facts}
 use Rattle.laws.specs.Runs.{finished, gone-on, stopped, by-step, begun}
-use Rattle.promises.specs.StepsWanted.{wanting, same-peak, same-runs, same-check, steps-fit}
+use Rattle.promises.specs.StepsWanted.{wanting, same-peak, same-runs, same-check}
 use Rattle.promises.specs.NeverInTheMiddle.{ends}
 
 -- ---- what is promised
@@ -132,7 +133,7 @@ module _ (c : Card) (g s : List ℤ) (m n : ℕ) where
   pub in-slices : check whole g s ≡ 0 → run whole g s ≡ joined (run (wanting c m) g s) (run (wanting c n) g)
   unfolding joined started
   in-slices e =
-      let k = steps-fit whole g s e in
+      let most : m + n ≤ 10000 = check-facts whole g s e .card .steps-high in
       let d : check (wanting c m) g s ≡ 0 = same-check c (m + n) m g s e (omega arith) in
       let p : run (wanting c m) g s ≡ first = as-part m s d in
       let passed : check (wanting c m) g (first .state) ≡ 0 = subst (λ (o : Outcome). check (wanting c m) g (o .state) ≡ 0) p (ends (wanting c m) g s d .passes) in

@@ -4,14 +4,14 @@ use mathlib.Core.Path.{_≡_, refl, sym, ap, _∙_}
 use mathlib.Core.Bool.{_&&_}
 use mathlib.Core.List.{List}
 use lib.IntN.{ℤ}
-use lib.Dec.{T, leb, le→leb, leb→le}
+use lib.Dec.{T, leb, le→leb}
 use Rattle.rules.specs.declared.Card.{Card}
 use Rattle.rules.specs.declared.Tally.{Tally}
 use Rattle.rules.specs.Grid.{Field}
 use Rattle.rules.specs.Site.{Water, stateLength, readGround, readState, writeState, within, sizesFit, sidesFit, timesFit, cardFits, lengthsFit, groundsFit, depthsFit, facesFit, wallsStill, valuesFit, check}
 use Rattle.rules.specs.Step.{eastTransfer, northTransfer, newHeight, eastFace, northFace, newEast, newNorth, next, withinLimit, limitKept, heightsFit, sharesFit, speedsFit, number, stepNumber, nextState}
 use Rattle.rules.specs.Run.{peak, accepted, runOn}
-use Rattle.laws.specs.Tests.{true-of, to-T, and-both, and-left, and-right, three-of}
+use Rattle.laws.specs.Tests.{true-of, to-T, and-both, and-left, three-of}
 use Rattle.laws.specs.Checks.{apart, together}
 use Rattle.laws.specs.Runs.{finished, gone-on, stopped, by-step}
 
@@ -115,10 +115,3 @@ same-runs c a b g (suc n) t s =
     ∙ rw (same-next c a b g s, same-peak c a b g (nextState (wanting c b) g s))
     (same-runs c a b g n (accepted t (peak (wanting c b) (nextState (wanting c b) g s))) (nextState (wanting c b) g s)))
     (λ r h e. stopped (wanting c a) g n t s r h (same-number c a b g s ∙ e))
-
--- the number of steps wanted, of a site that passes
-pub steps-fit : (c : Card) (g s : List ℤ) → check c g s ≡ 0 → c .steps ≤ 10000
-unfolding check cardFits timesFit
-steps-fit c g s e =
-    let f = three-of (sizesFit c) (sidesFit c) (timesFit c) (to-T (apart _ _ _ e .card)) in
-    leb→le (c .steps) 10000 (and-right (within 1 1000 (c .dt)) (leb (c .steps) 10000) (f .three))

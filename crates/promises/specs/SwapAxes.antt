@@ -11,7 +11,7 @@ use Rattle.laws.specs.Tests.{and-comm}
 use Rattle.laws.specs.Grids.{length-grid, grid-same}
 use Rattle.laws.specs.States.{height-back, east-back, north-back, ground-back, write-same, peak-same, write-read, grid-read}
 use Rattle.laws.specs.Checks.{apart, together}
-use Rattle.laws.specs.Lengths.{written-fits}
+use Rattle.laws.specs.Keeps.{written-fits}
 use Rattle.promises.specs.Swap as S
 use Rattle.promises.specs.Swap.{Swapped, SwappedField}
 use Rattle.promises.specs.SwapNumbers.{numbers, values-same}
