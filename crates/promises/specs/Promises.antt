@@ -4,10 +4,12 @@ use Prim.Native.Nat.{ℕ, _+_}
 use mathlib.Core.Path.{_≡_}
 use mathlib.Core.List.{List}
 use lib.IntN.{ℤ}
+use lib.ListN.{length}
 use Rattle.rules.specs.declared.Card.{Card}
 use Rattle.rules.specs.Site.{check}
 use Rattle.rules.specs.Step.{stepNumber, nextState}
 use Rattle.rules.specs.Run.{run}
+use Rattle.rules.specs.Calls.{runOutcome}
 use Rattle.rules.specs.Turn.{Turn, Obeys, eastWest, northSouth, swapAxes}
 use Rattle.laws.specs.Keeps.{keeps}
 use Rattle.promises.specs.Turning.{Lawful, obeys}
@@ -16,6 +18,7 @@ use Rattle.promises.specs.TakenTwice.{GivesBack}
 use Rattle.promises.specs.EastWest as EastWest
 use Rattle.promises.specs.NorthSouth as NorthSouth
 use Rattle.promises.specs.SwapAxes as SwapAxes
+use Rattle.promises.specs.TheCall.{call-runs}
 use Rattle.promises.specs.NeverInTheMiddle.{Ends, ends}
 use Rattle.promises.specs.StepsWanted.{wanting}
 use Rattle.promises.specs.Slices.{joined, in-slices}
@@ -47,7 +50,11 @@ taken-twice eastForWest = EastWest.gives-back
 taken-twice northForSouth = NorthSouth.gives-back
 taken-twice swappedAxes = SwapAxes.gives-back
 
--- ---- The run
+-- ---- The run, and so the public call
+
+-- lent a scratch list as long as its state, the call's outcome is the run
+pub the-call-runs : (c : Card) (g s scratch : List ℤ) → length scratch ≡ length s → runOutcome c g s scratch ≡ run c g s
+the-call-runs = call-runs
 
 -- a site that passes the first three checks still passes them after an accepted step
 pub still-passes : (c : Card) (g s : List ℤ) → check c g s ≡ 0 → stepNumber c g s ≡ 0 → check c g (nextState c g s) ≡ 0
@@ -61,3 +68,7 @@ never-in-the-middle = ends
 pub slices : (c : Card) (g s : List ℤ) (m n : ℕ) → check (wanting c (m + n)) g s ≡ 0
     → run (wanting c (m + n)) g s ≡ joined (run (wanting c m) g s) (run (wanting c n) g)
 slices = in-slices
+
+-- ---- The contracts: of every public call any two outcomes that its contract allows are equal, refused calls too
+
+pub use Rattle.promises.specs.Contracts.{one-step, one-run, one-search, one-reading, one-writing, one-text}
