@@ -22,6 +22,8 @@ use Rattle.promises.specs.TheCall.{call-runs}
 use Rattle.promises.specs.NeverInTheMiddle.{Ends, ends}
 use Rattle.promises.specs.StepsWanted.{wanting}
 use Rattle.promises.specs.Slices.{joined, in-slices}
+-- of each public call: any two outcomes that its contract allows are equal, refused calls too
+pub use Rattle.promises.specs.Contracts.{one-step, one-run, one-search, one-reading, one-writing, one-text}
 
 -- ---- Demand 3
 
@@ -68,7 +70,3 @@ never-in-the-middle = ends
 pub slices : (c : Card) (g s : List ℤ) (m n : ℕ) → check (wanting c (m + n)) g s ≡ 0
     → run (wanting c (m + n)) g s ≡ joined (run (wanting c m) g s) (run (wanting c n) g)
 slices = in-slices
-
--- ---- The contracts: of every public call any two outcomes that its contract allows are equal, refused calls too
-
-pub use Rattle.promises.specs.Contracts.{one-step, one-run, one-search, one-reading, one-writing, one-text}
