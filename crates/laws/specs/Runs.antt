@@ -51,15 +51,19 @@ module _ (c : Card) (g : List ℤ) where
 
   -- ---- from the first three checks on
 
-  pub begun : (s : List ℤ) → check c g s ≡ 0 → run c g s ≡ runOn c g (c .steps) (started (peak c s)) s
-  unfolding run runAfter runAll
-  begun s e = ap (λ (k : ℕ). runAfter k c g s) e
+  -- for any number k that the checks gave: `check`, or `checkWith` for the public call
+  pub begun-after : (k : ℕ) (s : List ℤ) → k ≡ 0 → runAfter k c g s ≡ runOn c g (c .steps) (started (peak c s)) s
+  unfolding runAfter runAll
+  begun-after k s e = ap (λ (k : ℕ). runAfter k c g s) e
 
-  pub not-begun : (s : List ℤ) (r : ℕ) → 0 < r → check c g s ≡ r
-      → run c g s ≡ record { tally = record { steps = 0; reason = r; top = pos 0 }; state = s }
-  unfolding run runAfter
-  not-begun s zero h e = absurd (not-suc-le-zero h)
-  not-begun s (suc r) h e = ap (λ (k : ℕ). runAfter k c g s) e
+  pub refused-after : (k : ℕ) (s : List ℤ) (r : ℕ) → 0 < r → k ≡ r → runAfter k c g s ≡ record { tally = record { steps = 0; reason = r; top = pos 0 }; state = s }
+  unfolding runAfter
+  refused-after k s zero h e = absurd (not-suc-le-zero h)
+  refused-after k s (suc r) h e = ap (λ (k : ℕ). runAfter k c g s) e
+
+  pub begun : (s : List ℤ) → check c g s ≡ 0 → run c g s ≡ runOn c g (c .steps) (started (peak c s)) s
+  unfolding run
+  begun s e = begun-after (check c g s) s e
 
 -- ---- for a loop: after `done` of `wanted` steps the tally is t and the state s, and the steps that are left lead to the outcome o
 pub record LeadsTo (c : Card) (g : List ℤ) (wanted done : ℕ) (t : Tally) (s : List ℤ) (o : Outcome) : Type 0 where
@@ -83,5 +87,5 @@ module _ {c : Card} {g : List ℤ} {wanted done : ℕ} {t : Tally} {s : List ℤ
       sym (ap (λ (n : ℕ). runOn c g n t s) e ∙ finished c g t s) ∙ l .leads
 
 -- the loop begins so
-pub leads-from : (c : Card) (g s : List ℤ) → check c g s ≡ 0 → LeadsTo c g (c .steps) 0 (started (peak c s)) s (run c g s)
-leads-from c g s e = record { leads = ap (λ (n : ℕ). runOn c g n (started (peak c s)) s) (omega arith) ∙ sym (begun c g s e) }
+pub leads-from : (c : Card) (g s : List ℤ) (k : ℕ) → k ≡ 0 → LeadsTo c g (c .steps) 0 (started (peak c s)) s (runAfter k c g s)
+leads-from c g s k e = record { leads = ap (λ (n : ℕ). runOn c g n (started (peak c s)) s) (omega arith) ∙ sym (begun-after c g k s e) }
