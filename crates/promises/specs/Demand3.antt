@@ -6,7 +6,7 @@ use lib.IntN.{ℤ}
 use Rattle.rules.specs.declared.Card.{Card}
 use Rattle.rules.specs.Site.{check}
 use Rattle.rules.specs.Run.{Outcome, run}
-use Rattle.rules.specs.Turn.{Turn, Obeys}
+use Rattle.rules.specs.Turn.{Turn}
 use Rattle.promises.specs.Turning.{Lawful, obeys}
 
 -- the run of a site, turned

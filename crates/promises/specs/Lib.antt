@@ -5,6 +5,7 @@ pub mod NeverInTheMiddle
 pub mod Slices
 pub mod TheCall
 pub mod Contracts
+pub mod Refused
 pub mod Turning
 pub mod EastWest
 pub mod NorthSouth

@@ -1,7 +1,7 @@
 -- A run that passed the first three checks never meets 1 to 3 in its middle: its end state passes them too, and its reason is 0 or one of 4 to 7.
 -- And it does what it says: no more steps than wanted, all of them exactly where the reason is 0.
 use Prim.Native.Nat.{ℕ, zero, suc, _+_, _≤_, _<_}
-use mathlib.Core.Path.{_≡_, refl, sym, ap, subst}
+use mathlib.Core.Path.{_≡_, refl, sym, subst}
 use mathlib.Core.Bool.{Bool, true, false}
 use mathlib.Core.List.{List}
 use native.Mathlib.Omega.{arith}

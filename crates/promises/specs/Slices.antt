@@ -1,7 +1,7 @@
 -- A run of m + n steps is a run of m steps and then one of n from where it ended, with the tallies joined: a host may run in slices, show how far
 -- it is, and get the same answer to the last micrometre.
 use Prim.Native.Nat.{ℕ, zero, suc, _+_, _≤_, _<_}
-use mathlib.Core.Path.{_≡_, refl, sym, ap, ap₂, _∙_, subst}
+use mathlib.Core.Path.{_≡_, refl, sym, ap, _∙_, subst}
 use mathlib.Core.List.{List}
 use native.Mathlib.Nat.{add-zero, zero-add, suc-add, add-assoc, not-suc-le-zero}
 use native.Mathlib.Omega.{arith}
@@ -12,7 +12,7 @@ use Rattle.rules.specs.declared.Card.{Card}
 use Rattle.rules.specs.declared.Tally.{Tally}
 use Rattle.rules.specs.Grid.{maxZ}
 use Rattle.rules.specs.Site.{check}
-use Rattle.rules.specs.Step.{stepNumber, nextState}
+use Rattle.rules.specs.Step.{nextState}
 use Rattle.rules.specs.Run.{Outcome, peak, started, accepted, stoppedFor, runOn, run}
 use Rattle.laws.specs.Numbers.{leZ-refl}
 use Rattle.laws.specs.Grids.{max-right}
