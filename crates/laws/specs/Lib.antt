@@ -30,3 +30,4 @@ pub mod Exact
 pub mod Bounded
 pub mod Behind
 pub mod Linear
+pub mod Tested

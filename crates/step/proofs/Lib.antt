@@ -1,3 +1,4 @@
 pub mod Around
 pub mod Sites
 pub mod Tides
+pub mod Answers
