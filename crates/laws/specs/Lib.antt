@@ -20,3 +20,5 @@ pub mod Sizes
 pub mod Transfers
 pub mod Exact
 pub mod Bounded
+pub mod Tested
+pub mod Velocities

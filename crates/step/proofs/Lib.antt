@@ -1,2 +1,4 @@
 pub mod Around
 pub mod Sites
+pub mod Ranges
+pub mod Speeds

@@ -2,5 +2,7 @@
 mod faces;
 mod heights;
 mod look;
+mod shares;
 mod transfers;
+mod velocities;
 mod words;
