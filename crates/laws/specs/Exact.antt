@@ -9,7 +9,7 @@
 --     value                       what is read back from the local is z
 --     within                      what a callee that is handed the local requires
 -- Each start and operation is an `abbrev`, so that `fits t` computes to the need and `value t` to the equation with the definition.
-use Prim.Native.Nat.{ℕ, zero, suc, _+_, _-_, _*_, _≤_, _<_, _^_}
+use Prim.Native.Nat.{ℕ, _+_, _*_, _≤_, _<_, _^_}
 use mathlib.Core.Path.{_≡_, refl, sym, ap, _∙_, subst}
 use native.Mathlib.Nat.{le-trans, le-refl, mul-le-mul, div-le-self, lt-of-le-of-lt, add-le-add, le-of-eq, suc-ne-zero}
 use native.Mathlib.Omega.{arith}
@@ -17,10 +17,9 @@ use lib.Dec.{T, ltb, ltb→lt}
 use lib.Pow.{pow-pos}
 use lib.IntN.{ℤ, pos, negsuc, negℤ, natAbs, _+ℤ_, _-ℤ_, _*ℤ_, +ℤ-idl}
 use lib.Signed.{quotZ, nonNeg}
-use borrow.Author.Needs.{needs}
 use mir.Syntax.{Width, w32, w64}
-use mir.Val.{Fits, SFits, toZ, ofZ, bits, hbits}
-use mir.Facts.{toZ-ofZ, sfits-widen}
+use mir.Val.{Fits, SFits, toZ, ofZ, hbits}
+use mir.Facts.{toZ-ofZ}
 use Rattle.laws.specs.Numbers.{abs-neg}
 use Rattle.laws.specs.Sizes.{Within, natAbs-add, natAbs-mul, natAbs-quot, mag-le}
 

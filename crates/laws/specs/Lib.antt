@@ -11,6 +11,14 @@ pub mod Reading
 pub mod Signed
 pub mod Places
 pub mod Copies
+pub mod Runs
+pub mod Walls
+pub mod Keeps
+pub mod Maxima
+pub mod Decimals
+pub mod Laid
+pub mod Bytes
+pub mod Words
 pub mod Flat
 pub mod Gather
 pub mod Between
@@ -22,3 +30,5 @@ pub mod Exact
 pub mod Bounded
 pub mod Tested
 pub mod Velocities
+pub mod Behind
+pub mod Linear

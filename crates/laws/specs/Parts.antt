@@ -36,3 +36,15 @@ module _ {A : Type 0} where
 
   pub back-part : (a : ℕ) (l : List A) → take (length l - a) (drop a l) ≡ drop a l
   back-part a l = take-all (length l - a) (drop a l) (omega (arith, length-drop a l))
+
+  -- how long `&l[a..]` is
+  pub back-length : (a : ℕ) (l : List A) → length (take (length l - a) (drop a l)) ≡ length l - a
+  back-length a l = length-take-le (length l - a) (drop a l) (omega (arith, length-drop a l))
+
+  -- what lies behind a, once `&mut l[a..]` is filled and has come back
+  pub back-drop : (a : ℕ) (l : List A) {new : List A} → a ≤ length l → drop a (putMid a (length l - a) l new) ≡ new
+  back-drop a l {new} h =
+      let k : length (drop a l) ≤ length l - a = omega (arith, length-drop a l) in
+      drop-at (take a l) (new ++ drop (length l - a) (drop a l)) a (length-take-le a l h)
+      ∙ ap (λ (t : List A). new ++ t) (drop-of-length-le (drop a l) k)
+      ∙ append-nil new

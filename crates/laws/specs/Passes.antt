@@ -7,7 +7,7 @@ use native.Mathlib.Numerals.{add-one}
 use native.Mathlib.Omega.{arith}
 use lib.IntN.{ℤ}
 use lib.ListN.{length, getD, set, drop, length-set, length-append, length-drop, drop-of-length-le}
-use lib.Seq.{drop-cons, set-at}
+use lib.Seq.{drop-cons, set-at, drop-set-lt}
 use lib.Arith.{digits-div, digits-mod, digits-lt}
 use Rattle.rules.specs.Grid.{Field, tabulate, grid}
 use Rattle.laws.specs.Grids.{tabulate-same, tabulate-add, length-tabulate, length-grid}
@@ -92,6 +92,7 @@ pub record Rows (columns : ℕ) (f : Field) (rows : ℕ) (old next : List ℤ) (
   pub most : j ≤ rows
   pub room : rows * columns ≤ length next
   pub same : length next ≡ length old
+  pub rest : drop (rows * columns) next ≡ drop (rows * columns) old
   pub is : next ≡ upto columns f old j 0
 
 -- the inner loop: `next` is `start` with the cells below i of row j filled, whatever list the rows were filled in
@@ -99,14 +100,15 @@ pub record Cells (columns : ℕ) (f : Field) (rows j : ℕ) (start next : List �
   pub most : i ≤ columns
   pub room : rows * columns ≤ length next
   pub same : length next ≡ length start
+  pub rest : drop (rows * columns) next ≡ drop (rows * columns) start
   pub is : (old : List ℤ) → start ≡ upto columns f old j 0 → next ≡ upto columns f old j i
 
 module _ {columns rows : ℕ} {f : Field} where
   pub begin : {old : List ℤ} → rows * columns ≤ length old → Rows columns f rows old old 0
-  begin {old} h = record { most = omega arith; room = h; same = refl; is = upto-start columns f old }
+  begin {old} h = record { most = omega arith; room = h; same = refl; rest = refl; is = upto-start columns f old }
 
   pub begin-row : {old start : List ℤ} {j : ℕ} → Rows columns f rows old start j → Cells columns f rows j start start 0
-  begin-row h = record { most = omega arith; room = h .room; same = refl; is = λ old e. e }
+  begin-row h = record { most = omega arith; room = h .room; same = refl; rest = refl; is = λ old e. e }
 
   module _ {j : ℕ} {start next : List ℤ} where
     -- the place that the pass stands at
@@ -122,6 +124,7 @@ module _ {columns rows : ℕ} {f : Field} where
           most = omega arith;
           room = omega arith;
           same = l ∙ h .same;
+          rest = ap (drop (rows * columns)) s ∙ drop-set-lt (rows * columns) next (j * columns + i) v (digits-lt hj hi) ∙ h .rest;
           is = λ old b. s ∙ upto-more columns f old j i (h .is old b) e (place h hj hi);
         }
 
@@ -132,6 +135,7 @@ module _ {columns rows : ℕ} {f : Field} where
           most = omega arith;
           room = h .room;
           same = h .same ∙ g .same;
+          rest = h .rest ∙ g .rest;
           is = upto-row columns f old j (h .is old (g .is)) (h .most) hi;
         }
 

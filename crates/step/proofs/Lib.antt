@@ -2,3 +2,4 @@ pub mod Around
 pub mod Sites
 pub mod Ranges
 pub mod Speeds
+pub mod Tides

@@ -7,7 +7,9 @@ use lib.IntN.{ℤ}
 use lib.ListN.{length, drop}
 use Rattle.rules.specs.declared.Card.{Card}
 use Rattle.rules.specs.Site.{readState, stateLength, check}
-use Rattle.rules.specs.Step.{limitKept}
+use Rattle.rules.specs.Step.{transfer, limitKept}
+use Rattle.laws.specs.Sizes.{Within}
+use Rattle.face.specs.Ranges.{InTransfer}
 use Rattle.step.specs.Tide.{crossings}
 
 -- a state that passes the first three checks, over some ground
@@ -36,6 +38,11 @@ pub record LimitedNorth (c : Card) (s : List ℤ) (i j : ℕ) : Type 0 where
   pub limited : Limited c s
   pub column : i < c .columns
   pub row : j ≤ c .rows
+
+-- the numbers of a face, and that what crosses it is at most a height
+pub record InCrossing (hK hL u : ℤ) (dt d : ℕ) : Type 0 where
+  pub ranges : InTransfer hK hL u dt d
+  pub size : Within 50000000 (transfer dt d hK hL u)
 
 -- room for what crosses the eastward faces, for what crosses the northward ones, and for both
 pub record EastRoom (c : Card) (s part : List ℤ) : Type 0 where

@@ -1,17 +1,16 @@
 // The new heights, at the front of the tide, from what crossed the faces.
 ghost use mathlib.Core.Path.{_≡_};
 ghost use lib.IntN.{pos};
-ghost use lib.ListN.{length};
 ghost use lib.Signed.{leZ};
 ghost use Rattle.rules.specs.Grid.{allAt};
-ghost use Rattle.rules.specs.Site.{readState, stateLength, writeState};
+ghost use Rattle.rules.specs.Site.{readState, writeState};
 ghost use Rattle.rules.specs.Step.{newHeight};
 ghost use Rattle.step.specs.Tide as Tide;
 ghost use Rattle.step.specs.Places.{HeightPlace};
 ghost use Rattle.step.specs.Known.{TideRoom, Crossed, CrossedCell, TideHeld};
-use rules::Card;
 use super::transfers;
 use super::words;
+use rules::Card;
 
 // A cell's new height.
 fn new_height(card: Card, state: &[i32], tide: &[i32], i: usize, j: usize) -> i32
@@ -52,7 +51,16 @@ pub fn fill_tide(card: Card, state: &[i32], tide: &mut [i32])
     heights(card, state, tide);
 }
 
-// Whether no height of the tide exceeds 50,000,000: left at the first that does.
+// Whether a height of the tide is no more than 50,000,000.
+fn height_fits(card: Card, tide: &[i32], i: usize, j: usize) -> bool
+    requires { ⌜ HeightPlace card (now tide) i j ⌝ }
+    ensures { λ r. ⌜ r ≡ leZ (readState card (now (tide .entry)) .height i j) (pos 50000000) ⌝ }
+{
+    let h = words::height_at(card, tide, i, j);
+    h <= 50000000
+}
+
+// Whether every height is: left at the first that is not.
 pub fn heights_fit(card: Card, tide: &[i32]) -> bool
     requires { ⌜ TideHeld card (now tide) ⌝ }
     ensures { λ r. ⌜ r ≡ allAt (card .columns) (card .rows) (λ i j. leZ (readState card (now (tide .entry)) .height i j) (pos 50000000)) ⌝ }
@@ -62,8 +70,7 @@ pub fn heights_fit(card: Card, tide: &[i32]) -> bool
     let mut fit = true;
     'look: for j in 0..rows {
         for i in 0..columns {
-            let h = words::height_at(card, tide, i, j);
-            if h > 50000000 {
+            if !height_fits(card, tide, i, j) {
                 fit = false;
                 break 'look;
             }

@@ -3,8 +3,8 @@ ghost use mathlib.Core.Path.{_≡_};
 ghost use Rattle.rules.specs.Site.{readState};
 ghost use Rattle.rules.specs.Step.{withinLimit, limitKept};
 ghost use Rattle.step.specs.Known.{Sound, SoundCell};
-use rules::Card;
 use super::words;
+use rules::Card;
 
 // Whether a cell keeps the step limit.
 fn keeps_limit(card: Card, state: &[i32], i: usize, j: usize) -> bool

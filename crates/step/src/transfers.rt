@@ -3,11 +3,19 @@ ghost use mathlib.Core.Path.{_≡_};
 ghost use Prim.Native.Nat.{suc};
 ghost use Rattle.rules.specs.Grid.{grid};
 ghost use Rattle.rules.specs.Site.{readState};
-ghost use Rattle.rules.specs.Step.{eastTransfer, northTransfer};
+ghost use Rattle.rules.specs.Step.{transfer, eastTransfer, northTransfer};
 ghost use Rattle.step.specs.Tide.{crossings};
-ghost use Rattle.step.specs.Known.{LimitedEast, LimitedNorth, EastRoom, NorthRoom, FacesRoom};
-use rules::Card;
+ghost use Rattle.step.specs.Known.{InCrossing, LimitedEast, LimitedNorth, EastRoom, NorthRoom, FacesRoom};
 use super::words;
+use rules::Card;
+
+// What crosses the face between K and L, where the step limit bounds it.
+fn crossing(hk: i32, hl: i32, u: i32, dt: u32, d: u32) -> i32
+    requires { ⌜ InCrossing hk hl u dt d ⌝ }
+    ensures { λ r. ⌜ r ≡ transfer dt d hk hl u ⌝ }
+{
+    face::transfer(hk, hl, u, dt, d) as i32
+}
 
 // What crosses an eastward face.
 fn east_transfer(card: Card, state: &[i32], i: usize, j: usize) -> i32
@@ -24,7 +32,7 @@ fn east_transfer(card: Card, state: &[i32], i: usize, j: usize) -> i32
     let west = words::height_at(card, state, i - 1, j);
     let east = words::height_at(card, state, i, j);
     let u = words::east_at(card, state, i, j);
-    face::transfer(west, east, u, card.dt, card.dx) as i32
+    crossing(west, east, u, card.dt, card.dx)
 }
 
 // What crosses a northward face.
@@ -42,7 +50,7 @@ fn north_transfer(card: Card, state: &[i32], i: usize, j: usize) -> i32
     let south = words::height_at(card, state, i, j - 1);
     let north = words::height_at(card, state, i, j);
     let u = words::north_at(card, state, i, j);
-    face::transfer(south, north, u, card.dt, card.dy) as i32
+    crossing(south, north, u, card.dt, card.dy)
 }
 
 // What crosses every eastward face.

@@ -1,4 +1,4 @@
-use mir.Syntax.{w32, w64}
+use mir.Syntax.{w64}
 use Rattle.rules.specs.Step.{carried}
 use Rattle.laws.specs.Exact.{Node, fits, value, int, result, add, mul, cast}
 use Rattle.face.proofs.Bounds.{share-within, ahead-within, behind-within, above-within, below-within}

@@ -1,4 +1,4 @@
-use mir.Syntax.{w32, w64}
+use mir.Syntax.{w64}
 use Rattle.laws.specs.Exact.{Node, fits, value, result, cast}
 use Rattle.face.proofs.Bounds.{share-within}
 use Rattle.face.proofs.own_share.Statement.{statement}

@@ -4,7 +4,7 @@ use native.Mathlib.Omega.{arith}
 use lib.IntN.{pos}
 use lib.Signed.{ltZ}
 use mir.Facts.{toZ-ofZ}
-use mir.Syntax.{w32, w64}
+use mir.Syntax.{w64}
 use Rattle.laws.specs.Exact.{Node, fits, value, divides, int, nat, lit, result, mul, quot, cast}
 use Rattle.face.proofs.Bounds.{height-within, either-within}
 use Rattle.face.proofs.Laws.{transfer-quot}

@@ -1,10 +1,13 @@
+use mathlib.Core.Path.{_≡_, _∙_, sym}
+use Prim.Native.Nat.{ℕ, suc, _+_, _*_}
+use native.Mathlib.Omega.{arith}
 use borrow.Author.Needs.{needs}
+use lib.Seq.{length-take-le}
+use Rattle.laws.specs.Grids.{length-grid}
+use Rattle.laws.specs.Parts.{two-parts, length-part}
+use Rattle.step.specs.Tide.{crossings}
 use Rattle.step.proofs.transfers.transfers.Statement.{statement}
 use Rattle.step.proofs.transfers.transfers.Tie as tie
-use Rattle.step.proofs.transfers.transfers.Reads as reads
-use Rattle.step.proofs.transfers.transfers.Lts as lts
-use Rattle.step.proofs.transfers.eastward.Reads as eastward-reads
-use Rattle.step.proofs.transfers.northward.Reads as northward-reads
 
 cast-columns : tie.Need-cast-columns
 cast-columns c = search needs
@@ -21,11 +24,16 @@ mul-faces c = search needs
 slice-relend-prefix-eastward : tie.Need-slice-relend-prefix-eastward
 slice-relend-prefix-eastward c = search needs
 
+abbrev easts : tie.Start → ℕ
+easts start = start .args .card .rows * (start .args .card .columns + 1)
+
 slice-aggregate-eastward : tie.Need-slice-aggregate-eastward
-slice-aggregate-eastward c = ?
+slice-aggregate-eastward c = sym (length-take-le _ _ (omega arith))
 
 eastward-requires : tie.Need-eastward-requires
-eastward-requires c κs = ?
+eastward-requires c κs =
+    let start = c .before .before .before in
+    record { limited = start .pre .limited; long = length-part (easts start) (start .args .part .now) (omega arith) (omega arith) }
 
 mul-northward : tie.Need-mul-northward
 mul-northward c = search needs
@@ -46,7 +54,12 @@ same-length : tie.Need-same-length
 same-length c = search needs
 
 returns : tie.Need-returns
-returns c = ?
+unfolding crossings
+returns c =
+    let start = c .before .before .before .before .before .before .before .before in
+    let same : start .args .card .rows * suc (start .args .card .columns) ≡ easts start = omega arith in
+    two-parts (easts start) (start .args .part .now) (c .before .before .before .before .eastward .ensures) (c .before .northward .ensures)
+    (length-grid _ _ _ ∙ same)
 
 pub transfers-spec : {M : Type 1} → statement M
 transfers-spec =
