@@ -65,11 +65,11 @@ fn eastward(card: Card, ground: &[i32], state: &[i32], tide: &[i32], part: &mut 
     let across = card.columns as usize + 1;
     for j in 0..rows {
         for i in 0..across {
-            let v = east_velocity(card, ground, state, tide, i, j);
-            if !face::speed_fits(v) {
+            let u = east_velocity(card, ground, state, tide, i, j);
+            if !face::speed_fits(u) {
                 return false;
             }
-            words::put(part, across, i, j, v as i32);
+            words::put(part, across, i, j, u as i32);
         }
     }
     true
