@@ -28,6 +28,7 @@ pub mod Sizes
 pub mod Transfers
 pub mod Exact
 pub mod Bounded
+pub mod Tested
+pub mod Velocities
 pub mod Behind
 pub mod Linear
-pub mod Tested

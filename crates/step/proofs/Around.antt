@@ -15,9 +15,10 @@ use Rattle.rules.specs.declared.Card.{Card}
 use Rattle.rules.specs.declared.Face.{Face}
 use Rattle.rules.specs.Site.{Water, readGround, readState, stateLength}
 use Rattle.rules.specs.Step.{after, before, eastFace, northFace}
-use Rattle.laws.specs.Facts.{Fits, check-facts}
 use Rattle.laws.specs.Places.{height-in, east-in, north-in}
 use Rattle.laws.specs.Reading.{Holds, long-of, height-read, east-read, north-read}
+use Rattle.step.proofs.Sites.{facts, state-long}
+use Rattle.step.specs.Known.{Sound}
 use Rattle.step.specs.declared.faces.Places.{Places}
 use Rattle.step.specs.Tide.{tide}
 use Rattle.step.specs.Faces.{Flowing, AtEast, AtNorth, Cell, EastPlaces, NorthPlaces, InLists, faceAt, HasAfter, HasBefore}
@@ -35,20 +36,17 @@ module _ (s : List ℤ) (f : ℕ → ℤ) (at stride : ℕ) where
   before-is (suc k) e = rw (lt-ltb 0 (suc k) (zero-lt-suc k), e k refl)
 
 module _ {c : Card} {g s t : List ℤ} (f : Flowing c g s t) where
-  pub fits : Fits c g s
-  fits = check-facts c g s (f .passes)
-
-  pub long : length s ≡ stateLength c
-  unfolding stateLength
-  long = fits .lengths .state
+  abbrev pub sound-of : Sound c s
+  sound-of = record { ground = g; passes = f .passes }
 
   pub cell-of : {i j : ℕ} → i < c .columns → j < c .rows → Cell c i j
   cell-of {i} {j} hi hj =
       let b : i < suc (c .columns) = omega arith in
+      let card = facts sound-of .card in
       record {
-        columns = fits .card .columns-high;
-        cells = fits .card .cells-high;
-        faces = fits .card .easts-high;
+        columns = card .columns-high;
+        cells = card .cells-high;
+        faces = card .easts-high;
         cell = digits-lt hj hi;
         face = digits-lt hj b;
       }
@@ -56,8 +54,8 @@ module _ {c : Card} {g s t : List ℤ} (f : Flowing c g s t) where
 module _ {c : Card} {g s t : List ℤ} {i j : ℕ} {p : Places} (a : AtEast c g s t i j) (e : EastPlaces c i j p) where
   pub east-in-lists : InLists p g s t
   east-in-lists =
-      let state : length s ≡ stateLength c = long (a .flowing) in
-      let ground : length g ≡ c .rows * c .columns = fits (a .flowing) .lengths .ground in
+      let state : length s ≡ stateLength c = state-long (sound-of (a .flowing)) in
+      let ground : length g ≡ c .rows * c .columns = facts (sound-of (a .flowing)) .lengths .ground in
       let k : i < c .columns = omega (arith, a .column) in
       let l : suc i < c .columns = omega (arith, a .column) in
       let ahead : suc (suc i) ≤ c .columns = omega (arith, a .column) in
@@ -81,7 +79,7 @@ module _ {c : Card} {g s t : List ℤ} {i j : ℕ} {p : Places} (a : AtEast c g 
   pub east-after : HasAfter (c .rows) j (p .own) (c .columns + 1) s
   east-after =
       let k : suc i ≤ c .columns = omega (arith, a .column) in
-      record { inside = a .row; long = λ h. let r : suc j < c .rows = omega (arith, h) in omega (arith, e .own, east-in c (long (a .flowing)) k r) }
+      record { inside = a .row; long = λ h. let r : suc j < c .rows = omega (arith, h) in omega (arith, e .own, east-in c (state-long (sound-of (a .flowing))) k r) }
 
   pub east-before : HasBefore j (p .own) (c .columns + 1) s
   east-before =
@@ -130,8 +128,8 @@ module _ {c : Card} {g s t : List ℤ} {i j : ℕ} {p : Places} (a : AtEast c g 
 module _ {c : Card} {g s t : List ℤ} {i j : ℕ} {p : Places} (a : AtNorth c g s t i j) (e : NorthPlaces c i j p) where
   pub north-in-lists : InLists p g s t
   north-in-lists =
-      let state : length s ≡ stateLength c = long (a .flowing) in
-      let ground : length g ≡ c .rows * c .columns = fits (a .flowing) .lengths .ground in
+      let state : length s ≡ stateLength c = state-long (sound-of (a .flowing)) in
+      let ground : length g ≡ c .rows * c .columns = facts (sound-of (a .flowing)) .lengths .ground in
       let k : j < c .rows = omega (arith, a .row) in
       let l : suc j < c .rows = omega (arith, a .row) in
       let ahead : suc (suc j) ≤ c .rows = omega (arith, a .row) in
@@ -155,7 +153,7 @@ module _ {c : Card} {g s t : List ℤ} {i j : ℕ} {p : Places} (a : AtNorth c g
   pub north-after : HasAfter (c .columns) i (p .own) 1 s
   north-after =
       let k : suc j ≤ c .rows = omega (arith, a .row) in
-      record { inside = a .column; long = λ h. let r : suc i < c .columns = omega (arith, h) in omega (arith, e .own, north-in c (long (a .flowing)) r k) }
+      record { inside = a .column; long = λ h. let r : suc i < c .columns = omega (arith, h) in omega (arith, e .own, north-in c (state-long (sound-of (a .flowing))) r k) }
 
   pub north-before : HasBefore i (p .own) 1 s
   north-before = record { inside = north-in-lists .own; back = λ h. omega (arith, e .own) }

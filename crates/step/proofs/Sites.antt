@@ -86,7 +86,7 @@ module _ {c : Card} {s : List ℤ} (sound : Sound c s) where
   pub side-y : Side (c .dy)
   side-y = record { low = facts .card .dy-low; high = facts .card .dy-high }
 
-  depths : T (depthsFit c (readState c s))
+  pub depths : T (depthsFit c (readState c s))
   unfolding check valuesFit
   depths =
       let g = sound .ground in

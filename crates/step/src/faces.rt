@@ -150,9 +150,9 @@ pub fn east_face(
     let rows = card.rows as usize;
     let p = east_places(card, i, j);
     let own = p.own;
-    let above = face_after(state, rows, j, own, columns + 1);
-    let below = face_before(state, j, own, columns + 1);
-    gather(ground, state, tide, p, above, below)
+    let north = face_after(state, rows, j, own, columns + 1);
+    let south = face_before(state, j, own, columns + 1);
+    gather(ground, state, tide, p, north, south)
 }
 
 // Around the northward face (i, j + 1).
@@ -170,7 +170,7 @@ pub fn north_face(
     let columns = card.columns as usize;
     let p = north_places(card, i, j);
     let own = p.own;
-    let above = face_after(state, columns, i, own, 1);
-    let below = face_before(state, i, own, 1);
-    gather(ground, state, tide, p, above, below)
+    let east = face_after(state, columns, i, own, 1);
+    let west = face_before(state, i, own, 1);
+    gather(ground, state, tide, p, east, west)
 }
