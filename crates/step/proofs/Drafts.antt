@@ -59,11 +59,13 @@ module _ {c : Card} {g s t d n : List ℤ} (drafting : Drafting c g s t d n) whe
   numbered a = a .number ∙ sym (first-passed (checkWith c g s (length n)) (stepNumber c g s) (drafting .passes))
 
   -- 0: the next state
-  pub done : {r : ℕ} {l m : List ℤ} → Advanced c g s r l → r ≡ 0 → m ≡ l → StepContract c g s n 0 m
+  pub done : {r : ℕ} {l m : List ℤ} → Advanced c g s r l → r ≡ 0 → m ≡ l → StepContract c g s n r m
   unfolding stepNext
   done a z k =
-      let e : 0 ≡ stepAnswer c g s n = sym z ∙ numbered a in
-      record { answer = e; next-exit = k ∙ a .state z ∙ sym (if-done (stepAnswer c g s n) (nextState c g s) n (sym e)) }
+      record {
+        answer = numbered a;
+        next-exit = k ∙ a .state z ∙ sym (if-done (stepAnswer c g s n) (nextState c g s) n (sym (numbered a) ∙ z));
+      }
 
   -- 4 to 7: the next state as lent
   pub refused-late : {r : ℕ} {l : List ℤ} → Advanced c g s r l → (r ≡ 0 → ⊥) → StepContract c g s n r n

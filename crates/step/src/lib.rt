@@ -1,12 +1,12 @@
 // One step of water over a site, for any card, any lists and any words in them.
-mod advance;
+pub mod advance;
 mod faces;
 mod heights;
 mod look;
 mod shares;
 mod transfers;
 mod velocities;
-mod words;
+pub mod words;
 
 ghost use mathlib.Core.Path.{_≡_};
 ghost use lib.ListN.{length};
@@ -15,7 +15,7 @@ ghost use Rattle.step.specs.Draft.{Drafting};
 use rules::Card;
 
 // A list as long as the longest state, of 128 by 128 cells.
-fn longest() -> [i32; 49408]
+pub fn longest() -> [i32; 49408]
     ensures { λ r. ⌜ length r ≡ 49408 ⌝ }
 {
     [0; 49408]
@@ -37,7 +37,6 @@ fn step_by_draft(
     let number = advance::advance(card, ground, state, &mut tide[..n], &mut draft[..n]);
     if number == 0 {
         words::copy(next, &draft[..n]);
-        return 0;
     }
     number
 }
@@ -46,11 +45,11 @@ fn step_by_draft(
 pub fn step(card: Card, ground: &[i32], state: &[i32], next: &mut [i32]) -> u32
     ensures { λ r. ⌜ StepContract card (now (ground .entry)) (now (state .entry)) (now (next .entry)) r (now (next .exit)) ⌝ }
 {
-    let number = site::check_with(card, ground, state, next.len());
-    if number == 0 {
+    let refusal = site::check_with(card, ground, state, next.len());
+    if refusal == 0 {
         let mut tide = longest();
         let mut draft = longest();
         return step_by_draft(card, ground, state, &mut tide, &mut draft, next);
     }
-    number
+    refusal
 }
