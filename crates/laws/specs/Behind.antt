@@ -1,10 +1,10 @@
--- The part of a state behind its heights: what it is, and that two states which agree there have the same faces.
+-- The front of a state, its heights, and the part behind them: what each is, and that two states which agree behind the heights have the same faces.
 use mathlib.Core.Path.{_≡_, sym, ap, _∙_}
 use mathlib.Core.List.{List, _++_}
 use Prim.Native.Nat.{ℕ, suc, _+_, _*_}
 use lib.IntN.{ℤ, pos}
-use lib.ListN.{getD, drop}
-use lib.Seq.{drop-at, getD-drop}
+use lib.ListN.{getD, take, drop}
+use lib.Seq.{take-at, drop-at, getD-drop}
 use Rattle.rules.specs.declared.Card.{Card}
 use Rattle.rules.specs.Grid.{grid}
 use Rattle.rules.specs.Site.{Water, readState, writeState}
@@ -14,6 +14,10 @@ pub behind-heights : (c : Card) (w : Water)
     → drop (c .rows * c .columns) (writeState c w) ≡ grid (suc (c .columns)) (c .rows) (w .east) ++ grid (c .columns) (suc (c .rows)) (w .north)
 unfolding writeState
 behind-heights c w = drop-at (grid (c .columns) (c .rows) (w .height)) _ (c .rows * c .columns) (length-grid (c .columns) (c .rows) (w .height))
+
+pub front-heights : (c : Card) (w : Water) → take (c .rows * c .columns) (writeState c w) ≡ grid (c .columns) (c .rows) (w .height)
+unfolding writeState
+front-heights c w = take-at (grid (c .columns) (c .rows) (w .height)) _ (c .rows * c .columns) (length-grid (c .columns) (c .rows) (w .height))
 
 read-alike : (n k : ℕ) (s t : List ℤ) → drop n s ≡ drop n t → getD s (n + k) (pos 0) ≡ getD t (n + k) (pos 0)
 read-alike n k s t e = sym (getD-drop n s k (pos 0)) ∙ ap (λ (l : List ℤ). getD l k (pos 0)) e ∙ getD-drop n t k (pos 0)

@@ -4,7 +4,7 @@ pub mod TakenTwice
 pub mod NeverInTheMiddle
 pub mod Slices
 pub mod TheCall
-pub mod Contracts
+pub mod OneOutcome
 pub mod Refused
 pub mod Turning
 pub mod EastWest

@@ -11,3 +11,4 @@ pub mod Text
 pub mod Play
 pub mod Calls
 pub mod Starred
+pub mod Contracts

@@ -3,3 +3,5 @@ pub mod Sites
 pub mod Ranges
 pub mod Speeds
 pub mod Tides
+pub mod Answers
+pub mod Drafts

@@ -2,5 +2,7 @@ pub mod Tide
 pub mod Faces
 pub mod Places
 pub mod Known
-pub mod Velocities
 pub mod Shares
+pub mod Velocities
+pub mod Advance
+pub mod Draft
