@@ -33,3 +33,4 @@ pub mod Velocities
 pub mod Behind
 pub mod Linear
 pub mod Outcomes
+pub mod GatherRows

@@ -18,28 +18,22 @@ use Rattle.step.specs.Draft.{Drafting}
 
 -- ---- the checks passed
 
+-- no state is longer than the longest
+pub room-few : (c : Card) (g s n : List ℤ) → checkWith c g s (length n) ≡ 0 → length n ≤ 49408
+unfolding stateLength
+room-few c g s n e =
+    let f = check-with-facts c g s (length n) e in
+    omega (arith, f .1, f .0 .card .cells-high, f .0 .card .easts-high, f .0 .card .norths-high)
+
 module _ {c : Card} {g s t d n : List ℤ} (drafting : Drafting c g s t d n) where
   room-long : length n ≡ stateLength c
   room-long = check-with-facts c g s (length n) (drafting .passes) .1
 
-  room-few : length n ≤ 49408
-  unfolding stateLength
-  room-few =
-      let card = check-with-facts c g s (length n) (drafting .passes) .0 .card in
-      omega (arith, room-long, card .cells-high, card .easts-high, card .norths-high)
-
-  -- the tide and the draft have room for the next state
-  pub tide-room : length n ≤ length t
-  tide-room = omega (arith, room-few)
-
-  pub draft-room : length n ≤ length d
-  draft-room = omega (arith, room-few)
-
   pub tide-part : length (take (length n) t) ≡ length n
-  tide-part = length-take-le (length n) t tide-room
+  tide-part = length-take-le (length n) t (drafting .tide)
 
   pub draft-part : length (take (length n) d) ≡ length n
-  draft-part = length-take-le (length n) d draft-room
+  draft-part = length-take-le (length n) d (drafting .draft)
 
   pub ready : Ready c g s (take (length n) t) (take (length n) d)
   unfolding stateLength

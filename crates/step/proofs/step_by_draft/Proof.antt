@@ -5,18 +5,18 @@ use borrow.Author.Needs.{needs}
 use lib.IntN.{ℤ}
 use lib.ListN.{length, take, drop, length-append}
 use lib.Seq.{take-at}
-use Rattle.step.proofs.Drafts.{tide-room, draft-room, tide-part, draft-part, ready, done, refused-late}
+use Rattle.step.proofs.Drafts.{tide-part, draft-part, ready, done, refused-late}
 use Rattle.step.proofs.step_by_draft.Statement.{statement}
 use Rattle.step.proofs.step_by_draft.Tie as tie
 
 slice-relend-prefix-advance : tie.Need-slice-relend-prefix-advance
-slice-relend-prefix-advance c = tide-room (c .pre)
+slice-relend-prefix-advance c = c .pre .tide
 
 slice-aggregate-advance : tie.Need-slice-aggregate-advance
 slice-aggregate-advance c = sym (tide-part (c .before .pre))
 
 slice-relend-prefix-advance-2 : tie.Need-slice-relend-prefix-advance-2
-slice-relend-prefix-advance-2 c = draft-room (c .before .pre)
+slice-relend-prefix-advance-2 c = c .before .pre .draft
 
 slice-aggregate-advance-2 : tie.Need-slice-aggregate-advance-2
 slice-aggregate-advance-2 c = sym (draft-part (c .before .before .pre))
