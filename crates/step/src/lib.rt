@@ -1,9 +1,9 @@
 // One step of water over a site.
-mod advance;
+pub mod advance;
 mod faces;
 mod heights;
 mod look;
 mod shares;
 mod transfers;
 mod velocities;
-mod words;
+pub mod words;
