@@ -32,3 +32,4 @@ pub mod Tested
 pub mod Velocities
 pub mod Behind
 pub mod Linear
+pub mod Outcomes

@@ -4,3 +4,4 @@ pub mod Ranges
 pub mod Speeds
 pub mod Tides
 pub mod Answers
+pub mod Drafts

@@ -5,3 +5,4 @@ pub mod Known
 pub mod Shares
 pub mod Velocities
 pub mod Advance
+pub mod Draft
