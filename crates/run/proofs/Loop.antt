@@ -38,10 +38,6 @@ pub state-length : (c : Card) (g s : List ℤ) → check c g s ≡ 0 → length 
 unfolding stateLength
 state-length c g s e = check-facts c g s e .lengths .state
 
-pub state-short : (c : Card) (g s : List ℤ) → check c g s ≡ 0 → stateLength c ≤ 49408
-unfolding stateLength
-state-short c g s e = let r = check-facts c g s e .card in omega arith
-
 pub few-steps : (c : Card) (g s : List ℤ) → check c g s ≡ 0 → c .steps ≤ 10000
 few-steps c g s e = omega (arith, check-facts c g s e .card .steps-high)
 

@@ -1,21 +1,18 @@
 // The run: one step after another, with the tally handed from step to step.
-ghost use mathlib.Core.Path.{_≡_};
-ghost use lib.ListN.{length};
 ghost use Rattle.rules.specs.Run.{runAll};
-ghost use Rattle.rules.specs.Calls.{runTally, runState, runScratch};
+ghost use Rattle.rules.specs.Contracts.{RunContract};
 ghost use Rattle.run.specs.Running.{Ready, Roomy, Ended};
 use rules::Card;
 use rules::Tally;
 
-// The tide of the largest site.
-fn tide() -> [i32; 49408]
-    ensures { λ r. ⌜ length r ≡ 49408 ⌝ }
-{
-    [0; 49408]
-}
-
 // All steps that are wanted, or as many as are accepted, of a site that passes the first three checks. Each next state is made in the scratch list.
-fn steps(card: Card, ground: &[i32], state: &mut [i32], scratch: &mut [i32], tide: &mut [i32]) -> Tally
+fn steps(
+    card: Card,
+    ground: &[i32],
+    state: &mut [i32],
+    scratch: &mut [i32],
+    tide: &mut [i32],
+) -> Tally
     requires { ⌜ Ready card (now ground) (now state) (now scratch) (now tide) ⌝ }
     ensures { λ r. ⌜ Ended (runAll card (now (ground .entry)) (now (state .entry))) r (now (state .exit)) ⌝ }
 {
@@ -40,8 +37,14 @@ fn steps(card: Card, ground: &[i32], state: &mut [i32], scratch: &mut [i32], tid
     tally
 }
 
-// The steps with a tide cut to the site's size.
-fn steps_in(card: Card, ground: &[i32], state: &mut [i32], scratch: &mut [i32], tide: &mut [i32]) -> Tally
+// The same with a tide that is long enough for any site.
+fn steps_in(
+    card: Card,
+    ground: &[i32],
+    state: &mut [i32],
+    scratch: &mut [i32],
+    tide: &mut [i32],
+) -> Tally
     requires { ⌜ Roomy card (now ground) (now state) (now scratch) (now tide) ⌝ }
     ensures { λ r. ⌜ Ended (runAll card (now (ground .entry)) (now (state .entry))) r (now (state .exit)) ⌝ }
 {
@@ -49,22 +52,19 @@ fn steps_in(card: Card, ground: &[i32], state: &mut [i32], scratch: &mut [i32], 
     steps(card, ground, state, scratch, &mut tide[..n])
 }
 
-// Runs a site: its tally, the last accepted state in the place of the first, and the scratch list all zero.
-// Reasons 1 to 3 leave both lists as they were lent.
+// A run: its tally, the last accepted state in the place of the first, and the scratch list all zero. Reasons 1 to 3 leave both lists as they were lent.
 pub fn run(card: Card, ground: &[i32], state: &mut [i32], scratch: &mut [i32]) -> Tally
-    ensures tally { λ r. ⌜ r ≡ runTally card (now (ground .entry)) (now (state .entry)) (now (scratch .entry)) ⌝ }
-    ensures state { λ _. ⌜ now (state .exit) ≡ runState card (now (ground .entry)) (now (state .entry)) (now (scratch .entry)) ⌝ }
-    ensures scratch { λ _. ⌜ now (scratch .exit) ≡ runScratch card (now (ground .entry)) (now (state .entry)) (now (scratch .entry)) ⌝ }
+    ensures { λ r. ⌜ RunContract card (now (ground .entry)) (now (state .entry)) (now (scratch .entry)) r (now (state .exit)) (now (scratch .exit)) ⌝ }
 {
-    let number = site::check_with(card, ground, state, scratch.len());
-    if number != 0 {
+    let refusal = site::check_with(card, ground, state, scratch.len());
+    if refusal != 0 {
         return Tally {
             steps: 0,
-            reason: number,
+            reason: refusal,
             top: 0,
         };
     }
-    let mut tide = tide();
+    let mut tide = step::longest();
     let tally = steps_in(card, ground, state, scratch, &mut tide);
     step::words::clear(scratch);
     tally

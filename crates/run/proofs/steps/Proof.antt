@@ -9,13 +9,6 @@ use Rattle.rules.specs.Site.{stateLength}
 use Rattle.run.proofs.Loop.{Running, card-true, cells-held, few-steps, peak-is, begins, goes-on, stops, ends}
 use Rattle.run.proofs.steps.Statement.{statement}
 use Rattle.run.proofs.steps.Tie as tie
-use Rattle.run.proofs.steps.Reads as reads
-use Rattle.run.proofs.steps.Lts as lts
-use Rattle.rules.proofs.Tally.accept.Reads as accept-reads
-use Rattle.site.proofs.cells.Reads as cells-reads
-use Rattle.site.proofs.greatest.Reads as greatest-reads
-use Rattle.step.proofs.advance.advance.Reads as advance-reads
-use Rattle.step.proofs.words.copy.Reads as copy-reads
 
 abbrev Inv-loop : tie.InvT-loop
 Inv-loop card ground state₀ scratch₀ tide₀ cells wanted tally₀ done₀ state scratch tide tally done =
@@ -53,18 +46,18 @@ copy-requires : tie.Need-copy-requires Inv-loop μ-loop
 copy-requires c κs = search needs
 
 greatest-requires-2 : tie.Need-greatest-requires-2 Inv-loop μ-loop
-greatest-requires-2 c κs = 
+greatest-requires-2 c κs =
     let s = c .before .before .before .before .before .before .before .before .before .before .before .before .before .before .before .before .before in
     let i = c .before .before .before .before .before .before .before .before .before .before .before .before .before .loop .inv in
     omega (arith, c .before .before .before .before .before .before .before .before .before .before .before .before .before .before .before .before .cells .ensures .0, cells-held _ _ _ (i .0 .passes), ap length (c .before .before .copy .ensures))
 
 accept-requires : tie.Need-accept-requires Inv-loop μ-loop
-accept-requires c κs = 
+accept-requires c κs =
     let i = c .before .before .before .before .before .before .before .before .before .before .before .before .before .before .loop .inv in
     omega (arith, i .0 .counted, few-steps _ _ _ (i .0 .passes), c .before .before .before .before .before .before .before .before .before .before .before .before .before .loop-test .taken)
 
 add-done : tie.Need-add-done Inv-loop μ-loop
-add-done c = 
+add-done c =
     let i = c .before .before .before .before .before .before .before .before .before .before .before .before .before .before .before .loop .inv in
     omega (arith, few-steps _ _ _ (i .0 .passes), c .before .before .before .before .before .before .before .before .before .before .before .before .before .before .loop-test .taken)
 
@@ -72,16 +65,15 @@ loop-less : tie.Need-loop-less Inv-loop μ-loop
 loop-less c = search needs
 
 loop-again : tie.Need-loop-again Inv-loop μ-loop
-loop-again c = 
+loop-again c =
     let i = c .before .before .before .before .before .before .before .before .before .before .before .before .before .before .before .loop .inv in
     let a = c .before .before .before .before .before .before .before .before .before .before .advance .ensures in
     let none = c .before .before .before .before .before .before .before .if1 .left in
-    let is = c .before .before .before .before .copy .ensures ∙ a .state none in
-    (
+    let is = c .before .before .before .before .copy .ensures ∙ a .state none in (
       goes-on (i .0) (c .before .before .before .before .before .before .before .before .before .before .before .before .before .before .loop-test .taken) (sym (a .number) ∙ none) _ _ is
-      (toZ-ofZ (record { sfits = c .before .greatest2 .ok }) ∙ peak-is _ _ _ (c .before .before .before .before .before .before .before .before .before .before .before .before .before .before .before .before .before .before .cells .ensures .0) (c .before .greatest2 .ensures))
-      _
-      (c .accept .ensures),
+          (toZ-ofZ (record { sfits = c .before .greatest2 .ok }) ∙ peak-is _ _ _ (c .before .before .before .before .before .before .before .before .before .before .before .before .before .before .before .before .before .before .cells .ensures .0) (c .before .greatest2 .ensures))
+          _
+          (c .accept .ensures),
       omega (arith, c .before .before .before .before .before .before .before .before .before .before .advance .kept .1 .1 .1 .1 .0, i .1),
       omega (arith, c .before .before .before .before .before .before .before .before .before .before .advance .kept .1 .1 .1 .0, i .2),
     )

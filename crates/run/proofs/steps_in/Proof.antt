@@ -1,18 +1,17 @@
+use mathlib.Core.Path.{sym}
 use borrow.Author.Needs.{needs}
+use Rattle.run.proofs.Answers.{tide-room, tide-part, ready}
 use Rattle.run.proofs.steps_in.Statement.{statement}
 use Rattle.run.proofs.steps_in.Tie as tie
-use Rattle.run.proofs.steps_in.Reads as reads
-use Rattle.run.proofs.steps_in.Lts as lts
-use Rattle.run.proofs.steps.Reads as steps-reads
 
 slice-relend-prefix-steps : tie.Need-slice-relend-prefix-steps
-slice-relend-prefix-steps c = ?
+slice-relend-prefix-steps c = tide-room (c .before .before .pre)
 
 slice-aggregate-steps : tie.Need-slice-aggregate-steps
-slice-aggregate-steps c = ?
+slice-aggregate-steps c = sym (tide-part (c .before .before .before .pre))
 
 steps-requires : tie.Need-steps-requires
-steps-requires c κs = ?
+steps-requires c κs = ready (c .before .before .before .pre)
 
 same-length : tie.Need-same-length
 same-length c = search needs
