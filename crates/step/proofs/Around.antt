@@ -1,7 +1,7 @@
 -- What is gathered around an inner face: the places lie within the lists, and what stands there is `eastFace` or `northFace` of document 01.
 use Prim.Native.Nat.{ℕ, zero, suc, _+_, _*_, _-_, _≤_, _<_}
 use mathlib.Core.Path.{_≡_, refl, sym, ap, _∙_}
-use mathlib.Core.Bool.{true, false, cond}
+use mathlib.Core.Bool.{cond}
 use mathlib.Core.List.{List}
 use native.Mathlib.Numerals.{add-one}
 use native.Mathlib.Nat.{zero-lt-suc, mul-le-mul-right}
@@ -12,7 +12,6 @@ use lib.ListN.{length, getD}
 use lib.Dec.{ltb}
 use lib.Arith.{digits-lt}
 use Rattle.rules.specs.declared.Card.{Card}
-use Rattle.rules.specs.declared.Face.{Face}
 use Rattle.rules.specs.Site.{Water, readGround, readState, stateLength}
 use Rattle.rules.specs.Step.{after, before, eastFace, northFace}
 use Rattle.laws.specs.Places.{height-in, east-in, north-in}
@@ -25,11 +24,11 @@ use Rattle.step.specs.Faces.{Flowing, AtEast, AtNorth, Cell, EastPlaces,
 
 -- the word beside a face, after it and before it, at a place that goes by strides
 module _ (s : List ℤ) (f : ℕ → ℤ) (at stride : ℕ) where
-  pub after-is : (n k : ℕ) → getD s (at + stride) (pos 0) ≡ f (suc k) → cond (ltb (k + 1) n) (getD s (at + stride) (pos 0)) (pos 0) ≡ after n f k
+  after-is : (n k : ℕ) → getD s (at + stride) (pos 0) ≡ f (suc k) → cond (ltb (k + 1) n) (getD s (at + stride) (pos 0)) (pos 0) ≡ after n f k
   unfolding after
   after-is n k e = rw (add-one k, e)
 
-  pub before-is : (k : ℕ) → ((m : ℕ) → k ≡ suc m → getD s (at - stride) (pos 0) ≡ f m)
+  before-is : (k : ℕ) → ((m : ℕ) → k ≡ suc m → getD s (at - stride) (pos 0) ≡ f m)
       → cond (ltb 0 k) (getD s (at - stride) (pos 0)) (pos 0) ≡ before f k
   unfolding before
   before-is zero e = refl

@@ -5,16 +5,15 @@ use mathlib.Core.List.{List}
 use native.Mathlib.Omega.{arith}
 use lib.IntN.{ℤ, pos}
 use lib.Signed.{leZ}
-use lib.Dec.{T, ltb}
+use lib.Dec.{ltb}
 use Rattle.rules.specs.declared.Card.{Card}
-use Rattle.rules.specs.declared.Face.{Face}
 use Rattle.rules.specs.Site.{Water, readGround, readState}
 use Rattle.rules.specs.Step.{after, before, newHeight, heightsFit, eastFace, northFace}
 use Rattle.laws.specs.Tests.{to-T}
 use Rattle.laws.specs.Grids.{allAt-at}
 use Rattle.laws.specs.Sizes.{Within}
 use Rattle.laws.specs.Bounded.{new-low}
-use Rattle.face.specs.Ranges.{Height, Speed, Ground, FaceFits}
+use Rattle.face.specs.Ranges.{Height, Ground, FaceFits}
 use Rattle.step.specs.Known.{Sound, Limited}
 use Rattle.step.specs.Faces.{Flowing, AtEast, AtNorth}
 use Rattle.step.proofs.Sites.{facts, depths, height-fits, east-fits, north-fits, east-crossed, north-crossed}

@@ -1,6 +1,6 @@
 -- `step::velocities::east_velocity` meets its contract.
 use Prim.Native.Nat.{_-_, _<_}
-use mathlib.Core.Path.{_≡_, _∙_, ap, sym, subst}
+use mathlib.Core.Path.{_∙_, ap, sym, subst}
 use native.Mathlib.Omega.{arith}
 use borrow.Author.Needs.{needs}
 use mir.Facts.{toZ-ofZ}
