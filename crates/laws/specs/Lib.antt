@@ -7,3 +7,8 @@ pub mod Limit
 pub mod Laid
 pub mod Bytes
 pub mod Words
+pub mod Flat
+pub mod Gather
+pub mod Between
+pub mod Values
+pub mod Facts
