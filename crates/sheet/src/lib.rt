@@ -1,0 +1,2 @@
+// The site sheet: its reader and its writer.
+mod numbers;
