@@ -3,15 +3,14 @@ use Prim.Native.Nat.{ℕ, zero, suc, _+_, _*_, _-_, _/_, _%_, _≤_, _<_, suc-le
 use mathlib.Core.Path.{_≡_, refl, sym, ap, ap₂, _∙_, subst}
 use mathlib.Core.Bool.{Bool, true, false, cond, not, _&&_}
 use mathlib.Core.List.{List, [], _∷_, _++_}
-use native.Mathlib.Nat.{zero-add, suc-add, div-add-mod', le-antisymm, not-suc-le-zero, le-of-suc-le-suc, eq-or-lt-of-le, mod-lt, div-lt-iff-lt-mul, le-refl, mul-zero, add-comm, mul-comm}
+use native.Mathlib.Nat.{zero-add, suc-add, div-add-mod', le-antisymm, not-suc-le-zero, le-of-suc-le-suc, eq-or-lt-of-le, mod-lt, div-lt-iff-lt-mul, le-refl, mul-zero}
 use native.Mathlib.Omega.{arith}
 use mathlib.Core.Logic.{_⊎_, inl, inr}
 use lib.IntN.{ℤ, pos, negsuc}
 use lib.Signed.{leZ}
-use lib.ListN.{length, getD, length-append, List·getD-append}
-use lib.Seq.{getD-append-add}
+use lib.ListN.{length, getD}
 use lib.Arith.{digits-div, digits-mod, digits-lt}
-use lib.Dec.{T, leb, ltb, T-not, not-T}
+use lib.Dec.{T, T-not, not-T}
 use native.Mathlib.Numerals.{add-one}
 use Rattle.rules.specs.Grid.{Field, tabulate, grid, all, allAt, greatest, maxZ}
 use Rattle.laws.specs.Tests.{both-ways, false-of, and-both, and-left, and-right}

@@ -4,6 +4,7 @@ pub mod Grids
 pub mod States
 pub mod Checks
 pub mod Limit
+pub mod Decimals
 pub mod Laid
 pub mod Bytes
 pub mod Words
