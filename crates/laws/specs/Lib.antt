@@ -13,3 +13,5 @@ pub mod Gather
 pub mod Between
 pub mod Values
 pub mod Facts
+pub mod Sheets
+pub mod Outcomes

@@ -1,8 +1,6 @@
 use Rattle.sheet.proofs.Signed.{neg-sub, neg-cast, neg-le, neg-result, up-cast, up-result}
 use Rattle.sheet.proofs.numbers.bits_of.Statement.{statement}
 use Rattle.sheet.proofs.numbers.bits_of.Tie as tie
-use Rattle.sheet.proofs.numbers.bits_of.Reads as reads
-use Rattle.sheet.proofs.numbers.bits_of.Lts as lts
 
 sub-n : tie.Need-sub-n
 sub-n c = neg-sub (c .before .args .z) (c .before .fits .z) (c .if1 .taken)

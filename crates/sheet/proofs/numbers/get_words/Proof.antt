@@ -1,19 +1,14 @@
 use mathlib.Core.Path.{_≡_, refl, ap, _∙_}
-use mathlib.Core.List.{List, _++_}
-use Prim.Native.Nat.{ℕ, _-_, _≤_, _<_}
+use mathlib.Core.List.{_++_}
+use Prim.Native.Nat.{_-_, _≤_}
 use native.Mathlib.Omega.{arith}
-use lib.IntN.{ℤ}
-use lib.ListN.{length, drop, set, length-set}
+use lib.ListN.{length, drop, length-set}
 use mir.Syntax.{w32}
 use mir.ValLaws.{toZ-ofZ}
 use Rattle.rules.specs.Sheet.{valueOf, wordsIn}
 use Rattle.sheet.proofs.Loops.{in-start, in-turn, in-end}
 use Rattle.sheet.proofs.numbers.get_words.Statement.{statement}
 use Rattle.sheet.proofs.numbers.get_words.Tie as tie
-use Rattle.sheet.proofs.numbers.get_words.Reads as reads
-use Rattle.sheet.proofs.numbers.get_words.Lts as lts
-use Rattle.sheet.proofs.numbers.number.Reads as number-reads
-use Rattle.sheet.proofs.numbers.value_of.Reads as value-of-reads
 
 abbrev Inv-loop : tie.InvT-loop
 Inv-loop s at words₀ i₀ i-end words i = (i-end ≡ length words₀) × (i ≤ i-end) × (length words ≡ length words₀) × (words ≡ wordsIn i (drop at s) ++ drop i words₀)

@@ -7,9 +7,6 @@ use Rattle.laws.specs.Bytes.{number-none}
 use Rattle.sheet.proofs.Loops.{fits-more, below-more, number-turn}
 use Rattle.sheet.proofs.numbers.number.Statement.{statement}
 use Rattle.sheet.proofs.numbers.number.Tie as tie
-use Rattle.sheet.proofs.numbers.number.Reads as reads
-use Rattle.sheet.proofs.numbers.number.Lts as lts
-use Rattle.sheet.proofs.numbers.wide.Reads as wide-reads
 
 abbrev Inv-loop : tie.InvT-loop
 Inv-loop s at k n₀ i₀ n i = (i ≤ k) × (n < 256 ^ i) × (n ≡ numberIn i (drop at s))

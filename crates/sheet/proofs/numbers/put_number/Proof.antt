@@ -7,8 +7,6 @@ use Rattle.laws.specs.Laid.{laid}
 use Rattle.sheet.proofs.Loops.{put-turn, put-end}
 use Rattle.sheet.proofs.numbers.put_number.Statement.{statement}
 use Rattle.sheet.proofs.numbers.put_number.Tie as tie
-use Rattle.sheet.proofs.numbers.put_number.Reads as reads
-use Rattle.sheet.proofs.numbers.put_number.Lts as lts
 
 abbrev Inv-loop : tie.InvT-loop
 Inv-loop out₀ at k n rest₀ i₀ out rest i = (i ≤ k) × (length out ≡ length out₀) × (laid out at (bytesOf i rest) ≡ laid out₀ at (bytesOf k n))

@@ -1,5 +1,5 @@
 use mathlib.Core.Path.{_≡_, refl, ap, _∙_}
-use Prim.Native.Nat.{_-_, _≤_, _<_}
+use Prim.Native.Nat.{_-_, _≤_}
 use native.Mathlib.Omega.{arith}
 use lib.IntN.{pos}
 use lib.ListN.{length, take, getD}
@@ -10,10 +10,6 @@ use Rattle.laws.specs.Laid.{laid}
 use Rattle.sheet.proofs.Loops.{words-start, words-turn, words-end}
 use Rattle.sheet.proofs.numbers.put_words.Statement.{statement}
 use Rattle.sheet.proofs.numbers.put_words.Tie as tie
-use Rattle.sheet.proofs.numbers.put_words.Reads as reads
-use Rattle.sheet.proofs.numbers.put_words.Lts as lts
-use Rattle.sheet.proofs.numbers.bits_of.Reads as bits-of-reads
-use Rattle.sheet.proofs.numbers.put_number.Reads as put-number-reads
 
 abbrev Inv-loop : tie.InvT-loop
 Inv-loop out₀ at words i₀ i-end out i = (i-end ≡ length words) × (i ≤ i-end) × (length out ≡ length out₀) × (out ≡ laid out₀ at (wordsBytes (take i words)))

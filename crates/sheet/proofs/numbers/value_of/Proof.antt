@@ -7,8 +7,6 @@ use Rattle.sheet.proofs.Signed.{high-away}
 use borrow.Author.Needs.{needs}
 use Rattle.sheet.proofs.numbers.value_of.Statement.{statement}
 use Rattle.sheet.proofs.numbers.value_of.Tie as tie
-use Rattle.sheet.proofs.numbers.value_of.Reads as reads
-use Rattle.sheet.proofs.numbers.value_of.Lts as lts
 
 cast-result : tie.Need-cast-result
 cast-result c = search needs
