@@ -1,3 +1,4 @@
+-- `put_number`: what is still to be laid would complete the field at every turn.
 use mathlib.Core.Path.{_≡_, refl, _∙_}
 use Prim.Native.Nat.{_-_, _≤_}
 use native.Mathlib.Omega.{arith}
