@@ -108,9 +108,9 @@ fn look(sheet: &[u8], n: usize, m: usize, draft: &mut [i32]) -> u32
     ensures number { λ r. ⌜ r ≡ readNumber (now (sheet .entry)) n m ⌝ }
     ensures words { λ r. ⌜ (r ≡ 0 → take (n + m) (now (draft .exit)) ≡ groundIn (now (sheet .entry)) ++ stateIn (now (sheet .entry))) ⌝ }
 {
-    let number = front_number(sheet, n, m);
-    if number != 0 {
-        return number;
+    let front = front_number(sheet, n, m);
+    if front != 0 {
+        return front;
     }
     let end = n + m;
     if !read_words(sheet, n, &mut draft[..end]) {

@@ -18,9 +18,9 @@ use rules::Wrote;
 fn write_number(card: Card, ground: &[i32], state: &[i32], room: usize) -> u32
     ensures { λ r. ⌜ r ≡ writeNumber card (now (ground .entry)) (now (state .entry)) room ⌝ }
 {
-    let number = site::check(card, ground, state);
-    if number != 0 {
-        return number;
+    let refusal = site::check(card, ground, state);
+    if refusal != 0 {
+        return refusal;
     }
     if room < reader::sheet_size(card) {
         return 8;
