@@ -24,6 +24,8 @@ pub mod Gather
 pub mod Between
 pub mod Values
 pub mod Facts
+pub mod Sheets
+pub mod Outcomes
 pub mod Sizes
 pub mod Transfers
 pub mod Exact
