@@ -4,3 +4,8 @@ pub mod Grids
 pub mod States
 pub mod Checks
 pub mod Limit
+pub mod Flat
+pub mod Gather
+pub mod Between
+pub mod Values
+pub mod Facts
