@@ -1,0 +1,2 @@
+// Finding chambers: the search over two lists of numbers, and over a row of chamber records.
+pub mod row;
