@@ -1,5 +1,5 @@
 -- A whole number between two ends, as the code tests it, and the same said of its size.
-use Prim.Native.Nat.{ℕ, zero, suc, _≤_}
+use Prim.Native.Nat.{ℕ, zero, suc}
 use mathlib.Core.Path.{_≡_, refl, sym, _∙_}
 use mathlib.Core.Bool.{Bool, _&&_, and-true, and-false}
 use lib.IntN.{ℤ, pos, negsuc, natAbs}

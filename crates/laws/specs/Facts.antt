@@ -1,5 +1,5 @@
 -- What the first three checks say of a card, a ground and a state, as facts that a proof can use.
-use Prim.Native.Nat.{ℕ, zero, suc, _+_, _*_, _-_, _≤_, _<_, zero-le}
+use Prim.Native.Nat.{ℕ, suc, _+_, _*_, _≤_, _<_, zero-le}
 use mathlib.Core.Path.{_≡_, refl, ap, _∙_, subst}
 use mathlib.Core.Bool.{Bool, true, false, _&&_, and-assoc, and-self}
 use mathlib.Core.List.{List}
@@ -12,7 +12,7 @@ use lib.Dec.{T, leb, ltb, eqb, leb→le, eqb→eq}
 use borrow.Author.Tests.{ltb-true, ltb-false}
 use lib.Arith.{digits-lt}
 use Rattle.rules.specs.declared.Card.{Card}
-use Rattle.rules.specs.Grid.{all, allAt}
+use Rattle.rules.specs.Grid.{all}
 use Rattle.rules.specs.Site.{within, sizesFit, sidesFit, timesFit, cardFits, stateLength, lengthsFit, readGround, readState, groundFits, heightFits, speedFits, isZero, groundsFit, depthsFit, facesFit, wallsStill, valuesFit, firstOf, check, checkWith}
 use Rattle.laws.specs.Tests.{and-left, and-right, three-of, four-of, to-T, true-of}
 use Rattle.laws.specs.Grids.{all-at}

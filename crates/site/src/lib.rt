@@ -74,6 +74,12 @@ pub fn height_fits(h: i32) -> bool
     is_between(0, 50000000, h)
 }
 
+fn is_zero(z: i32) -> bool
+    ensures { λ r. ⌜ r ≡ isZero z ⌝ }
+{
+    is_between(0, 0, z)
+}
+
 // Whether n words from `start` on lie in one range. It reads them all, whatever it finds: so the loop has no branch.
 fn all_between(s: &[i32], start: usize, n: usize, low: i32, high: i32) -> bool
     requires { ⌜ start + n ≤ length (now s) ⌝ }
@@ -94,7 +100,7 @@ fn pairs_still(s: &[i32], first: usize, second: usize, stride: usize, n: usize) 
     let mut ok = true;
     for k in 0..n {
         let at = k * stride;
-        ok = ok & is_between(0, 0, s[first + at]) & is_between(0, 0, s[second + at]);
+        ok = ok & (is_zero(s[first + at]) & is_zero(s[second + at]));
     }
     ok
 }
