@@ -9,3 +9,6 @@ pub mod Gather
 pub mod Between
 pub mod Values
 pub mod Facts
+pub mod Along
+pub mod Places
+pub mod Copies

@@ -1,2 +1,5 @@
 // Finding chambers: the search over two lists of numbers, and over a row of chamber records.
-pub mod row;
+mod chamber;
+mod register;
+mod row;
+mod window;
