@@ -1,8 +1,15 @@
-// A row of chamber records, taken apart. The borrow checker covers no function over a slice of structs, so `gather` is proved by hand;
-// it leaves the work to functions on plain values, which are covered.
+// A row of chamber records, gathered into one array of numbers, and the search over that. The borrow checker covers no function over a
+// slice of structs, so `gather` is proved by hand; it leaves the work to functions on plain values, which are covered.
 ghost use mathlib.Core.Path.{_≡_};
+ghost use Prim.Native.Nat.{_≤_};
+ghost use lib.ListN.{length};
 ghost use Rattle.search.specs.Row.{start, putAt, gathered};
+ghost use Rattle.search.specs.Gathered.{PartsAnswer, GatheredAnswer};
+use super::search_lists;
+use rules::Card;
 use rules::Chamber;
+use rules::Found;
+use rules::Window;
 
 fn empty() -> [i64; 2000]
     ensures { λ r. ⌜ r ≡ start ⌝ }
@@ -34,4 +41,60 @@ pub fn gather(row: &[Chamber]) -> [i64; 2000]
         i += 1;
     }
     both
+}
+
+// The search over n chambers gathered into one list: x in front, y from place 1,000 on.
+fn search_parts(
+    card: Card,
+    ground: &[i32],
+    state: &[i32],
+    both: &[i64],
+    n: usize,
+    window: Window,
+    depth: i32,
+    found: &mut [u32],
+) -> Found
+    requires { ⌜ (n ≤ 1000) × (length (now both) ≡ 2000) ⌝ }
+    ensures { λ r. ⌜ PartsAnswer card (now (ground .entry)) (now (state .entry)) (now (both .entry)) n window depth (now (found .entry)) r (now (found .exit)) ⌝ }
+{
+    let start: usize = 1000;
+    let end = start + n;
+    search_lists(
+        card,
+        ground,
+        state,
+        &both[..n],
+        &both[start..end],
+        window,
+        depth,
+        found,
+    )
+}
+
+// The same where n may be over 1,000: those were not gathered, and are refused.
+pub fn search_gathered(
+    card: Card,
+    ground: &[i32],
+    state: &[i32],
+    both: [i64; 2000],
+    n: usize,
+    window: Window,
+    depth: i32,
+    found: &mut [u32],
+) -> Found
+    ensures { λ r. ⌜ GatheredAnswer card (now (ground .entry)) (now (state .entry)) both n window depth (now (found .entry)) r (now (found .exit)) ⌝ }
+{
+    if 1000 < n {
+        if site::card_fits(card) {
+            return Found {
+                number: 2,
+                count: 0,
+            };
+        }
+        return Found {
+            number: 1,
+            count: 0,
+        };
+    }
+    search_parts(card, ground, state, &both, n, window, depth, found)
 }
