@@ -7,9 +7,11 @@ mod window;
 ghost use mathlib.Core.Path.{_≡_};
 ghost use Prim.Native.Nat.{_≤_};
 ghost use lib.ListN.{length};
+ghost use Rattle.rules.specs.Search.{xsOf, ysOf};
 ghost use Rattle.rules.specs.Calls.{searchCheck, searchAnswer, searchFound};
 ghost use Rattle.search.specs.Checked.{Reported, Ready};
 use rules::Card;
+use rules::Chamber;
 use rules::Found;
 use rules::Window;
 
@@ -95,4 +97,30 @@ pub fn search_lists(
     }
     let mut draft = blank();
     report(card, state, xs, ys, window, depth, &mut draft, found)
+}
+
+// The search over a row of chamber records, the same answer for every input. The borrow checker covers no function over a slice of
+// structs, so this one is proved by hand, and only hands on.
+pub fn search(
+    card: Card,
+    ground: &[i32],
+    state: &[i32],
+    chambers: &[Chamber],
+    window: Window,
+    depth: i32,
+    found: &mut [u32],
+) -> Found
+    ensures { λ r. ⌜ (r ≡ searchAnswer card (now (ground .entry)) (now (state .entry)) (xsOf (now (chambers .entry))) (ysOf (now (chambers .entry))) window depth (now (found .entry)))
+        × (now (found .exit) ≡ searchFound card (now (ground .entry)) (now (state .entry)) (xsOf (now (chambers .entry))) (ysOf (now (chambers .entry))) window depth (now (found .entry))) ⌝ }
+{
+    row::search_gathered(
+        card,
+        ground,
+        state,
+        row::gather(chambers),
+        chambers.len(),
+        window,
+        depth,
+        found,
+    )
 }
