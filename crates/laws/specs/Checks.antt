@@ -1,5 +1,5 @@
 -- The numbers of the checks taken apart and put together: 0 exactly where every test passes.
-use Prim.Native.Nat.{ℕ, zero, suc, _<_}
+use Prim.Native.Nat.{ℕ, suc, _<_}
 use mathlib.Core.Path.{_≡_, refl}
 use mathlib.Core.Bool.{Bool, true, false}
 use native.Mathlib.Nat.{suc-ne-zero}

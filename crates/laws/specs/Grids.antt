@@ -3,15 +3,14 @@ use Prim.Native.Nat.{ℕ, zero, suc, _+_, _*_, _-_, _/_, _%_, _≤_, _<_, suc-le
 use mathlib.Core.Path.{_≡_, refl, sym, ap, ap₂, _∙_, subst}
 use mathlib.Core.Bool.{Bool, true, false, cond, not, _&&_}
 use mathlib.Core.List.{List, [], _∷_, _++_}
-use native.Mathlib.Nat.{zero-add, suc-add, div-add-mod', le-antisymm, not-suc-le-zero, le-of-suc-le-suc, eq-or-lt-of-le, mod-lt, div-lt-iff-lt-mul, le-refl, mul-zero, add-comm, mul-comm}
+use native.Mathlib.Nat.{zero-add, suc-add, div-add-mod', le-antisymm, not-suc-le-zero, le-of-suc-le-suc, eq-or-lt-of-le, mod-lt, div-lt-iff-lt-mul, le-refl, mul-zero}
 use native.Mathlib.Omega.{arith}
 use mathlib.Core.Logic.{_⊎_, inl, inr}
 use lib.IntN.{ℤ, pos, negsuc}
 use lib.Signed.{leZ}
-use lib.ListN.{length, getD, length-append, List·getD-append}
-use lib.Seq.{getD-append-add}
+use lib.ListN.{length, getD}
 use lib.Arith.{digits-div, digits-mod, digits-lt}
-use lib.Dec.{T, leb, ltb, T-not, not-T}
+use lib.Dec.{T, T-not, not-T}
 use native.Mathlib.Numerals.{add-one}
 use Rattle.rules.specs.Grid.{Field, tabulate, grid, all, allAt, greatest, maxZ}
 use Rattle.laws.specs.Tests.{both-ways, false-of, and-both, and-left, and-right}
@@ -170,7 +169,7 @@ allAt-swap m n p q h = both-ways (allAt n m q) (allAt m n p) to from
 
 -- ---- greatest
 
-max-left : (a b : ℤ) → T (leZ a (maxZ a b))
+pub max-left : (a b : ℤ) → T (leZ a (maxZ a b))
 max-left a b = go (leZ a b) refl
   where
     go : (t : Bool) → leZ a b ≡ t → T (leZ a (cond t b a))
@@ -183,14 +182,14 @@ leZ-total (pos a) (negsuc b) t = tt
 leZ-total (negsuc a) (pos b) t = absurd t
 leZ-total (negsuc a) (negsuc b) t = lib.Dec.le→leb a b (let h = lib.Dec.nleb→lt b a t in omega arith)
 
-max-right : (a b : ℤ) → T (leZ b (maxZ a b))
+pub max-right : (a b : ℤ) → T (leZ b (maxZ a b))
 max-right a b = go (leZ a b) refl
   where
     go : (t : Bool) → leZ a b ≡ t → T (leZ b (cond t b a))
     go true e = leZ-refl b
     go false e = leZ-total a b (rw e tt)
 
-max-le : (a b c : ℤ) → T (leZ a c) → T (leZ b c) → T (leZ (maxZ a b) c)
+pub max-le : (a b c : ℤ) → T (leZ a c) → T (leZ b c) → T (leZ (maxZ a b) c)
 max-le a b c h k = go (leZ a b)
   where
     go : (t : Bool) → T (leZ (cond t b a) c)

@@ -4,6 +4,14 @@ pub mod Grids
 pub mod States
 pub mod Checks
 pub mod Limit
+pub mod Runs
+pub mod Walls
+pub mod Keeps
+pub mod Maxima
+pub mod Decimals
+pub mod Laid
+pub mod Bytes
+pub mod Words
 pub mod Flat
 pub mod Gather
 pub mod Between
@@ -12,3 +20,7 @@ pub mod Facts
 pub mod Along
 pub mod Places
 pub mod Copies
+pub mod Sizes
+pub mod Exact
+pub mod Bounded
+pub mod Linear

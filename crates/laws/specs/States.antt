@@ -1,14 +1,14 @@
 -- A state that is written, read; two that are written alike; the greatest height, met at other places.
-use Prim.Native.Nat.{ℕ, zero, suc, _+_, _*_, _-_, _/_, _%_, _≤_, _<_, suc-le-suc}
-use mathlib.Core.Path.{_≡_, refl, sym, ap, ap₂, _∙_, subst}
-use mathlib.Core.List.{List, [], _∷_, _++_}
+use Prim.Native.Nat.{ℕ, suc, _+_, _*_, _/_, _%_, _≤_, _<_, suc-le-suc}
+use mathlib.Core.Path.{_≡_, sym, ap, ap₂, _∙_}
+use mathlib.Core.List.{List, _++_}
 use native.Mathlib.Nat.{mod-lt, div-lt-iff-lt-mul, div-add-mod'}
 use native.Mathlib.Omega.{arith}
-use lib.IntN.{ℤ, pos, negsuc, negℤ}
+use lib.IntN.{ℤ, pos}
 use lib.ListN.{length, getD, length-append, List·getD-append}
 use lib.Seq.{getD-append-add}
 use lib.Arith.{digits-lt}
-use Rattle.rules.specs.Grid.{Field, tabulate, grid, greatest}
+use Rattle.rules.specs.Grid.{Field, tabulate, grid}
 use Rattle.laws.specs.Grids.{tabulate-add, tabulate-read, grid-flat, length-grid, getD-grid, grid-same, greatest-same, pos-columns}
 use Rattle.rules.specs.declared.Card.{Card}
 use Rattle.rules.specs.Site.{Water, readGround, readState, writeState, stateLength}

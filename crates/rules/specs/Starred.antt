@@ -1,13 +1,12 @@
 -- Document 01, "Numbers to check by": the starred cases, in a single table under a single claim, proved by computation.
 use Prim.Native.Nat.{ℕ}
 use mathlib.Core.Path.{_≡_, refl}
-use mathlib.Core.Bool.{Bool}
-use mathlib.Core.List.{List, [], _∷_, _++_}
-use lib.ListN.{length, replicate}
-use lib.IntN.{ℤ, pos, negsuc, negℤ}
+use mathlib.Core.List.{List, [], _∷_}
+use lib.ListN.{replicate}
+use lib.IntN.{ℤ, pos, negℤ}
 use Rattle.rules.specs.declared.Card.{Card}
 use Rattle.rules.specs.Grid.{tabulate, grid, all, allAt, greatest}
-use Rattle.rules.specs.Site.{Water, readGround, readState, writeState, stateLength, sizesFit, sidesFit, timesFit, cardFits, lengthsFit, groundsFit, depthsFit, facesFit, wallsStill, valuesFit, firstOf, checkWith, firstRefusal, ifDone}
+use Rattle.rules.specs.Site.{readGround, readState, writeState, stateLength, sizesFit, sidesFit, timesFit, cardFits, lengthsFit, groundsFit, depthsFit, facesFit, wallsStill, valuesFit, firstOf, checkWith, firstRefusal, ifDone}
 use Rattle.rules.specs.Step.{transfer, eastTransfer, northTransfer, withinLimit, newHeight, after, before, eastFace, northFace, outAhead, outBehind, outAbove, outBelow, positive, ownShare, brought, carried, slope, newVelocity, newEast, newNorth, next, limitKept, heightsFit, sharesFit, speedsFit, answer, number, stepNumber, nextState}
 use Rattle.rules.specs.Text.{digitsOf, decimal, heightText, depthText}
 use Rattle.rules.specs.Calls.{stepAnswer, stepNext}
