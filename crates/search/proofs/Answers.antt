@@ -13,6 +13,7 @@ use Rattle.rules.specs.declared.Found.{Found}
 use Rattle.rules.specs.Site.{cells, cardFits, lengthsFit, valuesFit, heightFits, readGround, readState, firstOf, firstRefusal, ifDone}
 use Rattle.rules.specs.Search.{registerFits, allAlong, askedFits, edgesFinite, listOf}
 use Rattle.rules.specs.Calls.{searchCheck, searchNumber, searchAnswer, searchFound}
+use Rattle.rules.specs.Contracts.{SearchContract}
 use Rattle.laws.specs.Tests.{and-left, and-right, to-T, true-of, four-of}
 use Rattle.laws.specs.Checks.{Passed, apart}
 use Rattle.laws.specs.Facts.{length-facts}
@@ -46,15 +47,11 @@ module _ (c : Card) (g s xs ys : List ℤ) (w : Window) (depth : ℤ) where
       }
 
   module _ (lent : List ℕ) where
-    -- the equations of the contract
-    abbrev pub Answers : Found → List ℕ → Type 0
-    Answers r left = (r ≡ searchAnswer c g s xs ys w depth lent) × (left ≡ searchFound c g s xs ys w depth lent)
-
-    pub refused : (n : ℕ) → n ≡ searchCheck c g s xs ys w depth → (n ≡ 0 → ⊥) → Answers (record { number = n; count = 0 }) lent
+    pub refused : (n : ℕ) → n ≡ searchCheck c g s xs ys w depth → (n ≡ 0 → ⊥) → SearchContract c g s xs ys w depth lent (record { number = n; count = 0 }) lent
     unfolding searchAnswer searchNumber searchFound firstRefusal ifDone
     refused zero e h = absurd (h refl)
-    refused (suc k) e h = (rw (← e), rw (← e))
+    refused (suc k) e h = record { answer = rw (← e); found-exit = rw (← e) }
 
-    pub answered : (r : Found) (left : List ℕ) → searchCheck c g s xs ys w depth ≡ 0 → Reported c s xs ys w depth lent r left → Answers r left
+    pub answered : (r : Found) (left : List ℕ) → searchCheck c g s xs ys w depth ≡ 0 → Reported c s xs ys w depth lent r left → SearchContract c g s xs ys w depth lent r left
     unfolding searchAnswer searchNumber searchFound firstRefusal ifDone
-    answered r left e a = (rw e (λ i. record { number = a .number i; count = a .count i }), rw e (a .list ∙ sym (room (leb (length (listOf c s w depth xs ys)) (length lent)) _ _)))
+    answered r left e a = record { answer = rw e (λ i. record { number = a .number i; count = a .count i }); found-exit = rw e (a .list ∙ sym (room (leb (length (listOf c s w depth xs ys)) (length lent)) _ _)) }

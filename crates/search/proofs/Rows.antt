@@ -17,9 +17,10 @@ use Rattle.rules.specs.declared.Found.{Found}
 use Rattle.rules.specs.Site.{cardFits, lengthsFit, valuesFit, readGround, readState, firstOf}
 use Rattle.rules.specs.Search.{registerFits, askedFits, xsOf, ysOf}
 use Rattle.rules.specs.Calls.{searchCheck}
+use Rattle.rules.specs.Contracts.{SearchContract, RowSearchContract}
 use Rattle.search.specs.Row.{none, putAt, gatheredTo, gathered, gathered-all}
 use Rattle.search.specs.Gathered.{GatheredAnswer}
-use Rattle.search.proofs.Answers.{Answers, refused}
+use Rattle.search.proofs.Answers.{refused}
 
 -- ---- the two parts of what is gathered
 
@@ -91,20 +92,19 @@ module _ (c : Card) (g s : List ℤ) (w : Window) (depth : ℤ) (lent : List ℕ
   not-zero true e = suc-ne-zero 1 e
   not-zero false e = suc-ne-zero 0 e
 
-  many-answers : (xs ys : List ℤ) → 1000 < length xs → (r .number ≡ cond {A = ℕ} (cardFits c) 2 1) × (r .count ≡ 0) × (left ≡ lent) → Answers c g s xs ys w depth lent r left
+  many-answers : (xs ys : List ℤ) → 1000 < length xs → (r .number ≡ cond {A = ℕ} (cardFits c) 2 1) × (r .count ≡ 0) × (left ≡ lent) → SearchContract c g s xs ys w depth lent r left
   many-answers xs ys h a =
       let p = refused c g s xs ys w depth lent (r .number) (a .0 ∙ sym (many-check xs ys h)) (λ e. not-zero (cardFits c) (sym (a .0) ∙ e)) in
-      ((λ i. record { number = r .number; count = a .1 i }) ∙ p .0, a .2 ∙ p .1)
+      record { answer = (λ i. record { number = r .number; count = a .1 i }) ∙ p .answer; found-exit = a .2 ∙ p .found-exit }
 
-  pub row-answers : (row : List Chamber) → GatheredAnswer c g s (gathered row) (length row) w depth lent r left → Answers c g s (xsOf row) (ysOf row) w depth lent r left
+  pub row-answers : (row : List Chamber) → GatheredAnswer c g s (gathered row) (length row) w depth lent r left → RowSearchContract c g s row w depth lent r left
   row-answers row a = go (leb (length row) 1000) refl
     where
-      go : (t : Bool) → leb (length row) 1000 ≡ t → Answers c g s (xsOf row) (ysOf row) w depth lent r left
+      go : (t : Bool) → leb (length row) 1000 ≡ t → RowSearchContract c g s row w depth lent r left
       go true e =
           let k : length row ≤ 1000 = leb-true (length row) 1000 e in
-          let p = a .few k in
-          subst (λ (ys : List ℤ). Answers c g s (xsOf row) ys w depth lent r left) (gathered-ys row k)
-          (subst (λ (xs : List ℤ). Answers c g s xs (take (length row) (drop 1000 (gathered row))) w depth lent r left) (gathered-xs row k) (p .answer, p .list))
+          subst (λ (ys : List ℤ). SearchContract c g s (xsOf row) ys w depth lent r left) (gathered-ys row k)
+          (subst (λ (xs : List ℤ). SearchContract c g s xs (take (length row) (drop 1000 (gathered row))) w depth lent r left) (gathered-xs row k) (a .few k))
       go false e =
           let h = leb-false (length row) 1000 e in
           many-answers (xsOf row) (ysOf row) (subst (λ (k : ℕ). 1000 < k) (sym (length-map row (λ (c : Chamber). c .x))) h) (a .many h)

@@ -7,8 +7,8 @@ mod window;
 ghost use mathlib.Core.Path.{_≡_};
 ghost use Prim.Native.Nat.{_≤_};
 ghost use lib.ListN.{length};
-ghost use Rattle.rules.specs.Search.{xsOf, ysOf};
-ghost use Rattle.rules.specs.Calls.{searchCheck, searchAnswer, searchFound};
+ghost use Rattle.rules.specs.Calls.{searchCheck};
+ghost use Rattle.rules.specs.Contracts.{SearchContract, RowSearchContract};
 ghost use Rattle.search.specs.Checked.{Reported, Ready};
 use rules::Card;
 use rules::Chamber;
@@ -88,8 +88,7 @@ pub fn search_lists(
     depth: i32,
     found: &mut [u32],
 ) -> Found
-    ensures { λ r. ⌜ (r ≡ searchAnswer card (now (ground .entry)) (now (state .entry)) (now (xs .entry)) (now (ys .entry)) window depth (now (found .entry)))
-        × (now (found .exit) ≡ searchFound card (now (ground .entry)) (now (state .entry)) (now (xs .entry)) (now (ys .entry)) window depth (now (found .entry))) ⌝ }
+    ensures { λ r. ⌜ SearchContract card (now (ground .entry)) (now (state .entry)) (now (xs .entry)) (now (ys .entry)) window depth (now (found .entry)) r (now (found .exit)) ⌝ }
 {
     let number = search_check(card, ground, state, xs, ys, window, depth);
     if number != 0 {
@@ -110,8 +109,7 @@ pub fn search(
     depth: i32,
     found: &mut [u32],
 ) -> Found
-    ensures { λ r. ⌜ (r ≡ searchAnswer card (now (ground .entry)) (now (state .entry)) (xsOf (now (chambers .entry))) (ysOf (now (chambers .entry))) window depth (now (found .entry)))
-        × (now (found .exit) ≡ searchFound card (now (ground .entry)) (now (state .entry)) (xsOf (now (chambers .entry))) (ysOf (now (chambers .entry))) window depth (now (found .entry))) ⌝ }
+    ensures { λ r. ⌜ RowSearchContract card (now (ground .entry)) (now (state .entry)) (now (chambers .entry)) window depth (now (found .entry)) r (now (found .exit)) ⌝ }
 {
     row::search_gathered(
         card,

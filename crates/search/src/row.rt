@@ -4,7 +4,7 @@ ghost use mathlib.Core.Path.{_≡_};
 ghost use Prim.Native.Nat.{_≤_};
 ghost use lib.ListN.{length};
 ghost use Rattle.search.specs.Row.{start, putAt, gathered};
-ghost use Rattle.search.specs.Gathered.{PartsAnswer, GatheredAnswer};
+ghost use Rattle.search.specs.Gathered.{PartsContract, GatheredAnswer};
 use super::search_lists;
 use rules::Card;
 use rules::Chamber;
@@ -55,7 +55,7 @@ fn search_parts(
     found: &mut [u32],
 ) -> Found
     requires { ⌜ (n ≤ 1000) × (length (now both) ≡ 2000) ⌝ }
-    ensures { λ r. ⌜ PartsAnswer card (now (ground .entry)) (now (state .entry)) (now (both .entry)) n window depth (now (found .entry)) r (now (found .exit)) ⌝ }
+    ensures { λ r. ⌜ PartsContract card (now (ground .entry)) (now (state .entry)) (now (both .entry)) n window depth (now (found .entry)) r (now (found .exit)) ⌝ }
 {
     let start: usize = 1000;
     let end = start + n;

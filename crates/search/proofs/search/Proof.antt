@@ -43,7 +43,7 @@ use Rattle.rules.specs.declared.Card.{Card}
 use Rattle.rules.specs.declared.Chamber.{Chamber}
 use Rattle.rules.specs.declared.Window.{Window}
 use Rattle.rules.specs.declared.Found.{Found}
-use Rattle.rules.specs.Search.{xsOf, ysOf}
+use Rattle.rules.specs.Contracts.{RowSearchContract}
 use Rattle.rules.proofs.Card as CT
 use Rattle.rules.proofs.Card.Laws as CT′
 use Rattle.rules.proofs.Chamber as T
@@ -54,7 +54,6 @@ use Rattle.rules.proofs.Found.Laws as FT′
 use Rattle.search.specs.Row.{gathered}
 use Rattle.search.specs.Gathered.{GatheredAnswer}
 use Rattle.search.proofs.Numbers.{Numbers, typed}
-use Rattle.search.proofs.Answers.{Answers}
 use Rattle.search.proofs.Rows.{row-answers}
 use Rattle.search.proofs.row.gather as gather
 use Rattle.search.proofs.row.gather.Symbol as gather-def
@@ -184,7 +183,7 @@ module _ {M : Type 1} (𝓤 : URA M) (H : Heap 𝓤) (A : Atoms 𝓤) (W : Given
         -- [what the parameters own; the tokens]
         nothing ! $ move ! (4 ∷ 0 ∷ []) $ join ! $ move ! (3 ∷ 0 ∷ []) $ join ! $ move ! (2 ∷ 0 ∷ []) $ join ! $ join ! $ frame ! $ done !
 
-    exits : (f : Found) (u : Val) (zs : List ℕ) → Answers card (ground .now) (state .now) (xsOf (row .now)) (ysOf (row .now)) w depth (lent .now) f zs → length zs ≡ length (lent .now)
+    exits : (f : Found) (u : Val) (zs : List ℕ) → RowSearchContract card (ground .now) (state .now) (row .now) w depth (lent .now) f zs → length zs ≡ length (lent .now)
         → ent 𝓤 (⋆ 𝓤 H A ((‵ (flft κ₀ q₀) ⊛ ‵ (flft κ₁ q₁) ⊛ ‵ (flft κ₃ q₃) ⊛ ‵ ftrue) ∷ ‵ (flft κ₂ q₂) ∷ ‵ (finally u32 (lent .name) zs) ∷ ‵ GroundOwn ∷ ‵ StateOwn ∷ ‵ RowOwn ∷ ‵ (FT.the-row .own f (u ∷ [])) ∷ [])) (Post u)
     exits f u zs e l =
         qed W ((‵ (flft κ₀ q₀) ⊛ ‵ (flft κ₁ q₁) ⊛ ‵ (flft κ₃ q₃) ⊛ ‵ ftrue) ∷ ‵ (flft κ₂ q₂) ∷ ‵ (finally u32 (lent .name) zs) ∷ ‵ GroundOwn ∷ ‵ StateOwn ∷ ‵ RowOwn ∷ ‵ (FT.the-row .own f (u ∷ [])) ∷ []) ∵

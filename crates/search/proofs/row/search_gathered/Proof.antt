@@ -4,7 +4,7 @@ use mathlib.Core.Path.{refl, sym, _∙_, subst}
 use native.Mathlib.Nat.{not-le-of-lt}
 use lib.IntN.{ℤ}
 use mir.Facts.{toZ-ofZ}
-use Rattle.search.specs.Gathered.{PartsAnswer}
+use Rattle.search.specs.Gathered.{PartsContract}
 use Rattle.search.proofs.row.search_gathered.Statement.{statement}
 use Rattle.search.proofs.row.search_gathered.Tie as tie
 
@@ -35,7 +35,7 @@ returns-3 c =
     record {
       many = λ h. absurd (not-le-of-lt h (e .if1 .left));
       few = λ h.
-          subst (λ (z : ℤ). PartsAnswer (a .card) (a .ground .now) (a .state .now) (a .t4) (a .n) (a .window) z (a .found .now) (f .search-parts .result) (f .search-parts .last .1 .1 .1 .1 .1 .1 .1 .0)) (toZ-ofZ (o .fits .depth)) (f .search-parts .ensures);
+          subst (λ (z : ℤ). PartsContract (a .card) (a .ground .now) (a .state .now) (a .t4) (a .n) (a .window) z (a .found .now) (f .search-parts .result) (f .search-parts .last .1 .1 .1 .1 .1 .1 .1 .0)) (toZ-ofZ (o .fits .depth)) (f .search-parts .ensures);
     }
 
 pub search-gathered-spec : {M : Type 1} → statement M

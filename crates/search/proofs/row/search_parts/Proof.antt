@@ -10,7 +10,7 @@ use mir.Syntax.{w32}
 use mir.Val.{toZ, ofZ}
 use mir.Facts.{toZ-ofZ}
 use Rattle.rules.specs.Calls.{searchAnswer, searchFound}
-use Rattle.search.specs.Gathered.{PartsAnswer}
+use Rattle.search.specs.Gathered.{PartsContract}
 use Rattle.search.proofs.row.search_parts.Statement.{statement}
 use Rattle.search.proofs.row.search_parts.Tie as tie
 
@@ -44,10 +44,10 @@ returns c =
     let o = f .before .before .before .before .before in
     let a = o .args in
     let same : 1000 + a .n - 1000 ≡ a .n = omega arith in
-    subst (λ (z : ℤ). PartsAnswer (a .card) (a .ground .now) (a .state .now) (a .both .now) (a .n) (a .window) z (a .found .now) (f .search-lists .result) (f .search-lists .last .1 .1 .1 .1 .1 .1 .1 .0)) (toZ-ofZ (o .fits .depth))
+    subst (λ (z : ℤ). PartsContract (a .card) (a .ground .now) (a .state .now) (a .both .now) (a .n) (a .window) z (a .found .now) (f .search-lists .result) (f .search-lists .last .1 .1 .1 .1 .1 .1 .1 .0)) (toZ-ofZ (o .fits .depth))
     (record {
-      answer = f .search-lists .ensures .0 ∙ ap (λ (k : ℕ). searchAnswer (a .card) (a .ground .now) (a .state .now) (take (a .n) (a .both .now)) (take k (drop 1000 (a .both .now))) (a .window) (toZ w32 (ofZ w32 (a .depth))) (a .found .now)) same;
-      list = f .search-lists .ensures .1 ∙ ap (λ (k : ℕ). searchFound (a .card) (a .ground .now) (a .state .now) (take (a .n) (a .both .now)) (take k (drop 1000 (a .both .now))) (a .window) (toZ w32 (ofZ w32 (a .depth))) (a .found .now)) same;
+      answer = f .search-lists .ensures .answer ∙ ap (λ (k : ℕ). searchAnswer (a .card) (a .ground .now) (a .state .now) (take (a .n) (a .both .now)) (take k (drop 1000 (a .both .now))) (a .window) (toZ w32 (ofZ w32 (a .depth))) (a .found .now)) same;
+      found-exit = f .search-lists .ensures .found-exit ∙ ap (λ (k : ℕ). searchFound (a .card) (a .ground .now) (a .state .now) (take (a .n) (a .both .now)) (take k (drop 1000 (a .both .now))) (a .window) (toZ w32 (ofZ w32 (a .depth))) (a .found .now)) same;
     })
 
 pub search-parts-spec : {M : Type 1} → statement M
