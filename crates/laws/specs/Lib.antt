@@ -24,3 +24,5 @@ pub mod Sizes
 pub mod Exact
 pub mod Bounded
 pub mod Linear
+pub mod Rising
+pub mod Asked

@@ -1,7 +1,7 @@
 -- An array of signed 64-bit numbers by value and in memory, for a walk by hand.
---     value     its machine value         typed     that value has the array's type         makes    whoever knows the value owns the array
+--     value     its machine value         typed     that value has the array's type
 --     lies      an array that was written whole lies in memory                              taken    and is taken from there
-use mathlib.Core.Path.{_≡_, refl, sym}
+use mathlib.Core.Path.{refl}
 use mathlib.Core.List.{List, [], _∷_, map}
 use Prim.Native.Nat.{ℕ}
 use lib.IntN.{ℤ}
@@ -14,13 +14,13 @@ use base.Logic.{ent, sep}
 use base.Fml.{fat, fsep}
 use prog.Wp.{Heap}
 use ghost.Atoms.{Atoms, sem}
-use types.Kit.{Given, ‵, _⊛_, _$_, _∵_, !, qed, move, keep, rewrite, fsplit, fjoin, fpick, fpack, frame, done}
+use types.Kit.{Given, ‵, _$_, _∵_, !, qed, move, rewrite, fsplit, fjoin, fpick, fpack, done}
 use denote.RattleType.{RattleType}
-use denote.Laws.{Is, Makes, Tells, shows}
+use denote.Laws.{Is, Tells, shows}
 use denote.Memory.{cellAt, partAt, partOf}
 use denote.Builtin.{i64}
-use denote.Signed.{sint-vals, sint-tells, sint-lawful, sint-makes}
-use denote.Array.{Array, arrayVal, array-vals, array-tells, array-lawful, array-makes}
+use denote.Signed.{sint-vals, sint-tells, sint-lawful}
+use denote.Array.{Array, arrayVal, array-vals, array-tells, array-lawful}
 use denote.Steps.{peeks}
 
 abbrev pub Numbers : ℕ → RattleType
@@ -38,9 +38,6 @@ tells n = array-tells i64 (sint-vals w64) (sint-tells w64) n
 module _ {M : Type 1} (𝓤 : URA M) (H : Heap 𝓤) (A : Atoms 𝓤) (W : Given 𝓤 H A) (n : ℕ) where
   pub typed : (xs : List ℤ) {u : Val} → Is (Numbers n) xs (u ∷ []) → T (hasTy (numbers n) u) × WT u
   typed xs {u} is = array-lawful 𝓤 H A W i64 (sint-lawful 𝓤 H A W w64) n .typed xs (u ∷ []) is .0
-
-  pub makes : Makes 𝓤 H A (Numbers n) (Is (Numbers n))
-  makes = array-makes 𝓤 H A W i64 (sint-makes 𝓤 H A W w64) n
 
   pub lies : (xs : List ℤ) (u : Val) (b o : ℕ) → ent 𝓤 (sep 𝓤 (H .at fullShare (numbers n) b o u) (sem 𝓤 H A (Numbers n .own xs (u ∷ [])))) (sem 𝓤 H A (partAt (Numbers n) fullShare xs b o))
   unfolding partOf

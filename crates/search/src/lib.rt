@@ -5,7 +5,6 @@ mod row;
 mod window;
 
 ghost use mathlib.Core.Path.{_≡_};
-ghost use Prim.Native.Nat.{_≤_};
 ghost use lib.ListN.{length};
 ghost use Rattle.rules.specs.Calls.{searchCheck};
 ghost use Rattle.rules.specs.Contracts.{SearchContract, RowSearchContract};

@@ -1,8 +1,8 @@
 -- `cell_place`: the row is below `rows` and the column below `columns`, so that the place is below 128 · 128.
 use borrow.Author.Needs.{needs}
-use mathlib.Core.Path.{_≡_, _∙_}
+use mathlib.Core.Path.{_≡_}
 use native.Mathlib.Omega.{arith}
-use Prim.Native.Nat.{ℕ, _≤_, _<_, _*_, _+_}
+use Prim.Native.Nat.{_<_, _*_, _+_}
 use mir.Facts.{toZ-ofZ}
 use Rattle.laws.specs.Facts.{card-facts}
 use Rattle.laws.specs.Along.{along-low, along-high, reach-high}

@@ -1,10 +1,9 @@
 -- `listed`: where the window's test fails the answer is its own, and elsewhere the height's.
 use borrow.Author.Needs.{needs, scaled-fits}
-use mathlib.Core.Path.{_≡_, sym, _∙_, ap}
-use mathlib.Core.Bool.{Bool, _&&_}
+use mathlib.Core.Path.{_≡_, sym, _∙_}
 use native.Mathlib.Omega.{arith}
-use Prim.Native.Nat.{ℕ, _≤_, _<_, _*_, _^_}
-use lib.IntN.{ℤ, pos}
+use Prim.Native.Nat.{_≤_, _<_, _*_, _^_}
+use lib.IntN.{pos}
 use lib.ListN.{length, getD}
 use mir.Syntax.{w32}
 use mir.Facts.{toZ-ofZ}

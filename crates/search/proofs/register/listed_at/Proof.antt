@@ -2,15 +2,14 @@
 use borrow.Author.Needs.{needs}
 use mathlib.Core.Path.{_≡_, _∙_}
 use mathlib.Core.Bool.{true}
-use Prim.Native.Nat.{ℕ, _*_}
+use Prim.Native.Nat.{_*_}
 use lib.IntN.{ℤ, pos}
-use lib.ListN.{length, getD}
+use lib.ListN.{getD}
 use mir.Syntax.{w64}
 use mir.Val.{toZ, ofZ}
 use mir.Facts.{toZ-ofZ}
 use Rattle.rules.specs.Search.{alongFits}
-use Rattle.laws.specs.Tests.{to-T, true-of}
-use Rattle.laws.specs.Grids.{all-at}
+use Rattle.laws.specs.Along.{all-along}
 use Rattle.search.proofs.register.listed_at.Statement.{statement}
 use Rattle.search.proofs.register.listed_at.Tie as tie
 
@@ -43,10 +42,10 @@ module _ (c : tie.After-listed-arg2) where
   y-is = toZ-ofZ (record { sfits = c .listed-arg2 .given })
 
   x-fits : alongFits (start .args .card .columns * start .args .card .dx) x ≡ true
-  x-fits = true-of _ (all-at (length (start .args .xs .now)) (λ k. alongFits (start .args .card .columns * start .args .card .dx) (getD (start .args .xs .now) k (pos 0))) (to-T (start .pre .0 .x-fits)) (start .args .k) (search needs))
+  x-fits = all-along _ (start .args .xs .now) (start .pre .0 .x-fits) (start .args .k) (search needs)
 
   y-fits : alongFits (start .args .card .rows * start .args .card .dy) y ≡ true
-  y-fits = true-of _ (all-at (length (start .args .ys .now)) (λ k. alongFits (start .args .card .rows * start .args .card .dy) (getD (start .args .ys .now) k (pos 0))) (to-T (start .pre .0 .y-fits)) (start .args .k) (search needs))
+  y-fits = all-along _ (start .args .ys .now) (start .pre .0 .y-fits) (start .args .k) (search needs)
 
 listed-requires : tie.Need-listed-requires
 listed-requires c κs =

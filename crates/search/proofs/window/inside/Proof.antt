@@ -1,6 +1,5 @@
 -- `inside`: two tests, joined as the definition joins them.
 use borrow.Author.Needs.{needs}
-use mathlib.Core.Path.{_∙_}
 use mir.Facts.{toZ-ofZ}
 use Rattle.rules.specs.Search.{inside}
 use Rattle.search.proofs.window.inside.Statement.{statement}

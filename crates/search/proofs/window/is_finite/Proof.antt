@@ -1,6 +1,6 @@
 -- `is_finite`: a float lies between the two infinities exactly where it is finite.
 use mathlib.Core.Path.{_≡_, refl}
-use mathlib.Core.Bool.{Bool, true, false, _&&_}
+use mathlib.Core.Bool.{true, false, _&&_}
 use lib.Ieee.{Float, nan, inf, fin, lt, ofBits, nanBits}
 use Rattle.rules.specs.Search.{isFinite}
 use Rattle.search.proofs.window.is_finite.Statement.{statement}
