@@ -2,6 +2,7 @@
 ghost use mathlib.Core.Path.{_≡_};
 ghost use Prim.Native.Nat.{_<_};
 ghost use lib.IntN.{pos};
+ghost use lib.Signed.{leZ};
 ghost use Rattle.rules.specs.Search.{cellAlong, listed as Search·listed};
 ghost use Rattle.search.specs.Checked.{OnSite, Wet, cellPlace};
 use super::window::inside;
@@ -30,6 +31,12 @@ fn cell_place(card: Card, x: i64, y: i64) -> usize
     row * (card.columns as usize) + column
 }
 
+fn deep_enough(height: i32, depth: i32) -> bool
+    ensures { λ r. ⌜ r ≡ leZ depth height ⌝ }
+{
+    depth <= height
+}
+
 // Whether it is inside the window, and its cell's kept height at least the depth asked.
 pub fn listed(card: Card, state: &[i32], window: Window, depth: i32, x: i64, y: i64) -> bool
     requires { ⌜ Wet card (now state) x y ⌝ }
@@ -37,7 +44,7 @@ pub fn listed(card: Card, state: &[i32], window: Window, depth: i32, x: i64, y: 
 {
     if inside(window, x, y) {
         let at = cell_place(card, x, y);
-        return depth <= state[at];
+        return deep_enough(state[at], depth);
     }
     false
 }

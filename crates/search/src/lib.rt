@@ -62,18 +62,13 @@ fn report(
     requires { ⌜ Ready card (now state) (now xs) (now ys) (now draft) ⌝ }
     ensures { λ r. ⌜ Reported card (now (state .entry)) (now (xs .entry)) (now (ys .entry)) window depth (now (found .entry)) r (now (found .exit)) ⌝ }
 {
-    let count = register::list(card, state, window, depth, xs, ys, draft);
-    if found.len() < count {
-        return Found {
-            number: 8,
-            count: count as u32,
-        };
+    let n = register::list(card, state, window, depth, xs, ys, draft);
+    let count = n as u32;
+    if found.len() < n {
+        return Found { number: 8, count };
     }
-    register::copy_front(draft, count, found);
-    Found {
-        number: 0,
-        count: count as u32,
-    }
+    register::copy_front(draft, n, found);
+    Found { number: 0, count }
 }
 
 // The search over two lists of numbers.

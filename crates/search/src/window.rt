@@ -2,7 +2,7 @@
 ghost use mathlib.Core.Path.{_≡_};
 ghost use lib.Dec.{T};
 ghost use lib.Ieee.{binary64, inFloat};
-ghost use Rattle.rules.specs.Search.{isFinite, edgesFinite, between as Search·between, inside as Search·inside};
+ghost use Rattle.rules.specs.Search.{isFinite, edgesFinite, inside as Search·inside};
 use rules::Window;
 
 // Whether x is neither a NaN nor an infinity. There is no literal of an infinity: the two are made of their bits.
@@ -23,16 +23,14 @@ pub fn edges_finite(window: Window) -> bool
         & is_finite(window.north)
 }
 
-fn between(low: f64, v: f64, high: f64) -> bool
-    ensures { λ r. ⌜ r ≡ Search·between low v high ⌝ }
-{
-    (low <= v) & (v <= high)
-}
-
 // Whether west ≤ x ≤ east and south ≤ y ≤ north, x and y turned into floats.
 pub fn inside(window: Window, x: i64, y: i64) -> bool
     requires { ⌜ T (inFloat binary64 x) × T (inFloat binary64 y) ⌝ }
     ensures { λ r. ⌜ r ≡ Search·inside window x y ⌝ }
 {
-    between(window.west, x as f64, window.east) & between(window.south, y as f64, window.north)
+    let x = x as f64;
+    let y = y as f64;
+    let across = (window.west <= x) & (x <= window.east);
+    let along = (window.south <= y) & (y <= window.north);
+    across & along
 }

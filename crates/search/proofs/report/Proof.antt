@@ -33,8 +33,8 @@ module _ (c : tie.After-list) where
   listed : Listed (found start) (start .args .draft .now) (c .list .result) (c .list .last .1 .1 .1 .1 .1 .1 .0)
   listed = subst (λ (z : ℤ). Listed (listOf (start .args .card) (start .args .state .now) (start .args .window) z (start .args .xs .now) (start .args .ys .now)) (start .args .draft .now) (c .list .result) (c .list .last .1 .1 .1 .1 .1 .1 .0)) (toZ-ofZ (start .fits .depth)) (c .list .ensures)
 
-cast-t14 : tie.Need-cast-t14
-cast-t14 c = let l = c .before .before .before in omega (arith, listed l .counted, few (start l))
+cast-count : tie.Need-cast-count
+cast-count c = let l = c .before .before in omega (arith, listed l .counted, few (start l))
 
 same-length : tie.Need-same-length
 same-length c = search needs
@@ -49,9 +49,6 @@ copy-front-requires : tie.Need-copy-front-requires
 copy-front-requires c κs =
     let l = c .before .before .before .before .before in
     ((let h : length (c .before .before .before .before .before .list .last .1 .1 .1 .1 .1 .1 .0) ≡ length (start l .args .draft .now) = l .list .kept .1 .1 .1 .1 .1 .1 .0 in omega (arith, listed l .counted, few (start l), start l .pre .draft-long)), c .before .before .if1 .left)
-
-cast-t20 : tie.Need-cast-t20
-cast-t20 c = let l = c .before .before .before .before .before .before .before .before in omega (arith, listed l .counted, few (start l))
 
 same-length-2 : tie.Need-same-length-2
 same-length-2 c = search needs
@@ -76,4 +73,12 @@ returns-2 c =
 
 pub report-spec : {M : Type 1} → statement M
 report-spec =
-    tie.close (tie.spec list-requires cast-t14 same-length returns copy-front-requires cast-t20 same-length-2 same-length-3 returns-2)
+    tie.close (tie.spec
+    list-requires
+    cast-count
+    same-length
+    returns
+    copy-front-requires
+    same-length-2
+    same-length-3
+    returns-2)

@@ -37,22 +37,25 @@ module _ (c : tie.After-cell-place) where
   within : c .cell-place .result < length (start .args .state .now)
   within = omega (arith, place-is, place-below (start .args .card) (start .pre .on .card) (start .args .x) (start .args .y), start .pre .heights)
 
-mul-result : tie.Need-mul-result
-mul-result c = scaled-fits (c .cell-place .result) (length (start c .args .state .now)) 4 (within c) (search needs)
+mul-deep-enough : tie.Need-mul-deep-enough
+mul-deep-enough c = scaled-fits (c .cell-place .result) (length (start c .args .state .now)) 4 (within c) (search needs)
 
-shared-slice-copy-out-result : tie.Need-shared-slice-copy-out-result
-shared-slice-copy-out-result c = within c
+shared-slice-copy-out-deep-enough : tie.Need-shared-slice-copy-out-deep-enough
+shared-slice-copy-out-deep-enough c = within c
 
 inside-is : (c : tie.After-inside) → c .inside .result ≡ inside (c .before .args .window) (c .before .args .x) (c .before .args .y)
 inside-is c = simp (c .inside .ensures, toZ-ofZ (c .before .fits .x), toZ-ofZ (c .before .fits .y))
 
+deep-enough-requires : tie.Need-deep-enough-requires
+deep-enough-requires c κs = search needs
+
 returns : tie.Need-returns
 unfolding listed readState
 returns c =
-    let at = c .before in
+    let at = c .before .before in
     let o = at .before .before .before in
-    let height = toZ-ofZ {w = w32} {z = getD (o .args .state .now) (at .cell-place .result) (pos 0)} (record { sfits = c .result .given }) in
-    rw (toZ-ofZ (o .fits .depth), height, place-is at, sym (inside-is (at .before .before)) ∙ at .before .if1 .taken)
+    let height = toZ-ofZ {w = w32} {z = getD (o .args .state .now) (at .cell-place .result) (pos 0)} (record { sfits = c .before .deep-enough-arg .given }) in
+    c .deep-enough .ensures ∙ rw (toZ-ofZ (o .fits .depth), height, place-is at, sym (inside-is (at .before .before)) ∙ at .before .if1 .taken)
 
 returns-2 : tie.Need-returns-2
 unfolding listed
@@ -60,4 +63,11 @@ returns-2 c = simp (sym (inside-is (c .before)) ∙ c .if1 .left)
 
 pub listed-spec : {M : Type 1} → statement M
 listed-spec =
-    tie.close (tie.spec inside-requires cell-place-requires mul-result shared-slice-copy-out-result returns returns-2)
+    tie.close (tie.spec
+    inside-requires
+    cell-place-requires
+    mul-deep-enough
+    shared-slice-copy-out-deep-enough
+    deep-enough-requires
+    returns
+    returns-2)
