@@ -26,6 +26,7 @@ pub mod Values
 pub mod Facts
 pub mod Sheets
 pub mod Outcomes
+pub mod Along
 pub mod Sizes
 pub mod Transfers
 pub mod Exact
@@ -34,4 +35,7 @@ pub mod Tested
 pub mod Velocities
 pub mod Behind
 pub mod Linear
-pub mod Outcomes
+pub mod Rising
+pub mod Asked
+pub mod Fronts
+pub mod Listings
