@@ -8,3 +8,12 @@ pub mod Decimals
 pub mod Laid
 pub mod Bytes
 pub mod Words
+pub mod Flat
+pub mod Gather
+pub mod Between
+pub mod Values
+pub mod Facts
+pub mod Sizes
+pub mod Exact
+pub mod Bounded
+pub mod Linear
