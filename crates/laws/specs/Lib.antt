@@ -17,3 +17,4 @@ pub mod Sizes
 pub mod Exact
 pub mod Bounded
 pub mod Linear
+pub mod Signs

@@ -13,7 +13,7 @@ pub record Appended (text : List ℕ) (at end : ℕ) (old new : List ℕ) : Type
   pub stop : end ≡ at + length text
   pub bytes : new ≡ laid old at text
 
--- a state of at most 32×32 cells, whose lines end at or before `end` in a list of `room` bytes; and a row of it
+-- a state of at most 32×32 cells, whose lines end at or before `end` in a list of `room` bytes; a row of it; and a cell of it
 pub record Rows (c : Card) (state : List ℤ) (end room : ℕ) : Type 0 where
   pub narrow : c .columns ≤ 32
   pub short : c .rows ≤ 32
@@ -23,3 +23,8 @@ pub record Rows (c : Card) (state : List ℤ) (end room : ℕ) : Type 0 where
 pub record Row (c : Card) (state : List ℤ) (j end room : ℕ) : Type 0 where
   pub rows : Rows c state end room
   pub row : j < c .rows
+
+pub record Cell (c : Card) (state : List ℤ) (i j end room : ℕ) : Type 0 where
+  pub rows : Rows c state end room
+  pub row : j < c .rows
+  pub column : i < c .columns

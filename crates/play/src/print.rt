@@ -2,13 +2,13 @@
 ghost use mathlib.Core.Path.{_≡_};
 ghost use mathlib.Core.Bool.{cond};
 ghost use mathlib.Core.List.{[], _++_};
-ghost use Prim.Native.Nat.{ℕ, _+_, _*_, _≤_, _<_};
+ghost use Prim.Native.Nat.{_+_, _*_, _≤_, _<_};
 ghost use lib.IntN.{natAbs};
 ghost use lib.ListN.{length};
 ghost use lib.Dec.{eqb};
 ghost use Rattle.rules.specs.Text.{decimal, depthText};
-ghost use Rattle.rules.specs.Play.{comma, lineFeed, refusedLine, tallyLine, rowTexts, rowLines};
-ghost use Rattle.play.specs.Appended.{Appended, Rows, Row};
+ghost use Rattle.rules.specs.Play.{comma, lineFeed, labelled, refusedLine, tallyLine, cellText, rowTexts, rowLines};
+ghost use Rattle.play.specs.Appended.{Appended, Rows, Row, Cell};
 use rules::Card;
 use rules::Tally;
 
@@ -36,24 +36,33 @@ fn append_depth(height: i32, out: &mut [u8], at: usize) -> usize
     at + k
 }
 
+// A word and a number.
+fn append_labelled(word: &[u8], n: u32, out: &mut [u8], at: usize) -> usize
+    requires { ⌜ at + (length (now word) + 10) ≤ length (now out) ⌝ }
+    ensures { λ r. ⌜ Appended (labelled (now (word .entry)) n) at r (now (out .entry)) (now (out .exit)) ⌝ }
+{
+    let end = append(word, out, at);
+    append_decimal(n, out, end)
+}
+
 // `refused`, a space and a number.
 pub fn refused_line(number: u32, out: &mut [u8]) -> usize
     requires { ⌜ 19 ≤ length (now out) ⌝ }
     ensures { λ r. ⌜ Appended (refusedLine number) 0 r (now (out .entry)) (now (out .exit)) ⌝ }
 {
-    let a = append(b"refused ", out, 0);
-    let b = append_decimal(number, out, a);
-    append(b"\n", out, b)
+    let end = append_labelled(b"refused ", number, out, 0);
+    append(b"\n", out, end)
 }
 
 // The size of a number, which may be negative.
 fn size(top: i32) -> u32
     ensures { λ r. ⌜ r ≡ natAbs top ⌝ }
 {
-    if top < 0 {
-        return (-1 - top) as u32 + 1;
+    let wide = top as i64;
+    if wide < 0 {
+        return (0 - wide) as u32;
     }
-    top as u32
+    wide as u32
 }
 
 // Steps done, reason and top.
@@ -61,13 +70,10 @@ pub fn tally_line(tally: Tally, out: &mut [u8]) -> usize
     requires { ⌜ 50 ≤ length (now out) ⌝ }
     ensures { λ r. ⌜ Appended (tallyLine tally) 0 r (now (out .entry)) (now (out .exit)) ⌝ }
 {
-    let a = append(b"steps ", out, 0);
-    let b = append_decimal(tally.steps, out, a);
-    let c = append(b" reason ", out, b);
-    let d = append_decimal(tally.reason, out, c);
-    let e = append(b" top ", out, d);
-    let f = append_decimal(size(tally.top), out, e);
-    append(b"\n", out, f)
+    let steps = append_labelled(b"steps ", tally.steps, out, 0);
+    let reason = append_labelled(b" reason ", tally.reason, out, steps);
+    let top = append_labelled(b" top ", size(tally.top), out, reason);
+    append(b"\n", out, top)
 }
 
 // A comma and a space before each text but the first.
@@ -81,18 +87,27 @@ fn append_comma(i: usize, out: &mut [u8], at: usize) -> usize
     append(b", ", out, at)
 }
 
-// The depth texts of row j, joined.
+// The depth text of a cell, joined to those before it.
+fn append_cell(card: Card, state: &[i32], i: usize, j: usize, out: &mut [u8], at: usize) -> usize
+    requires { ⌜ Cell card (now state) i j (at + 9) (length (now out)) ⌝ }
+    ensures { λ r. ⌜ Appended (cellText card (now (state .entry)) i j) at r (now (out .entry)) (now (out .exit)) ⌝ }
+{
+    let columns = card.columns as usize;
+    let height = state[j * columns + i];
+    let text = append_comma(i, out, at);
+    append_depth(height, out, text)
+}
+
+// The depth texts of row j.
 fn row_texts(card: Card, state: &[i32], j: usize, out: &mut [u8], at: usize) -> usize
     requires { ⌜ Row card (now state) j (at + 9 * card .columns) (length (now out)) ⌝ }
     ensures { λ r. ⌜ Appended (rowTexts card (now (state .entry)) j (card .columns)) at r (now (out .entry)) (now (out .exit)) ⌝ }
 {
     let columns = card.columns as usize;
-    let from = j * columns;
     let mut i = 0;
     let mut end = at;
     while i < columns {
-        let text = append_comma(i, out, end);
-        end = append_depth(state[from + i], out, text);
+        end = append_cell(card, state, i, j, out, end);
         i += 1;
     }
     end

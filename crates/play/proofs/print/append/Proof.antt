@@ -3,9 +3,6 @@ use native.Mathlib.Omega.{arith}
 use Rattle.play.proofs.Laws.{put-appended, put-ends}
 use Rattle.play.proofs.print.append.Statement.{statement}
 use Rattle.play.proofs.print.append.Tie as tie
-use Rattle.play.proofs.print.append.Reads as reads
-use Rattle.play.proofs.print.append.Lts as lts
-use Rattle.text.proofs.put_front.Reads as put-front-reads
 
 sub-put-front : tie.Need-sub-put-front
 sub-put-front c = search needs

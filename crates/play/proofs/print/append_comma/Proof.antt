@@ -1,12 +1,10 @@
+use Rattle.play.proofs.Laws.{appended-same, appended-none, separator-first, separator-other}
 use borrow.Author.Needs.{needs}
 use Rattle.play.proofs.print.append_comma.Statement.{statement}
 use Rattle.play.proofs.print.append_comma.Tie as tie
-use Rattle.play.proofs.print.append_comma.Reads as reads
-use Rattle.play.proofs.print.append_comma.Lts as lts
-use Rattle.play.proofs.print.append.Reads as append-reads
 
 returns : tie.Need-returns
-returns c = ?
+returns c = appended-same (separator-first _ (c .if1 .taken)) appended-none
 
 slice-aggregate-append : tie.Need-slice-aggregate-append
 slice-aggregate-append c = search needs
@@ -18,7 +16,7 @@ same-length : tie.Need-same-length
 same-length c = search needs
 
 returns-2 : tie.Need-returns-2
-returns-2 c = ?
+returns-2 c = appended-same (separator-other _ (c .before .before .before .before .before .if1 .left)) (c .before .before .append .ensures)
 
 pub append-comma-spec : {M : Type 1} → statement M
 append-comma-spec =

@@ -1,12 +1,9 @@
 use borrow.Author.Needs.{needs}
 use native.Mathlib.Omega.{arith}
 use Rattle.laws.specs.Decimals.{length-decimal}
-use Rattle.play.proofs.Laws.{put-appended, put-ends, length-depth}
+use Rattle.play.proofs.Laws.{put-appended, put-ends}
 use Rattle.play.proofs.print.append_decimal.Statement.{statement}
 use Rattle.play.proofs.print.append_decimal.Tie as tie
-use Rattle.play.proofs.print.append_decimal.Reads as reads
-use Rattle.play.proofs.print.append_decimal.Lts as lts
-use Rattle.text.proofs.put_decimal.Reads as put-decimal-reads
 
 sub-put-decimal : tie.Need-sub-put-decimal
 sub-put-decimal c = search needs

@@ -1,13 +1,9 @@
 use borrow.Author.Needs.{needs}
 use Rattle.text.proofs.Laws.{told-put, put-same, signed-same}
 use native.Mathlib.Omega.{arith}
-use Rattle.laws.specs.Decimals.{length-decimal}
 use Rattle.play.proofs.Laws.{put-appended, put-ends, length-depth}
 use Rattle.play.proofs.print.append_depth.Statement.{statement}
 use Rattle.play.proofs.print.append_depth.Tie as tie
-use Rattle.play.proofs.print.append_depth.Reads as reads
-use Rattle.play.proofs.print.append_depth.Lts as lts
-use Rattle.text.proofs.write_text.Reads as write-text-reads
 
 sub-write-text : tie.Need-sub-write-text
 sub-write-text c = search needs

@@ -1,10 +1,8 @@
+use native.Mathlib.Omega.{arith}
+use Rattle.play.proofs.Laws.{appended-more, texts-end}
 use borrow.Author.Needs.{needs}
 use Rattle.play.proofs.print.row_line.Statement.{statement}
 use Rattle.play.proofs.print.row_line.Tie as tie
-use Rattle.play.proofs.print.row_line.Reads as reads
-use Rattle.play.proofs.print.row_line.Lts as lts
-use Rattle.play.proofs.print.append.Reads as append-reads
-use Rattle.play.proofs.print.row_texts.Reads as row-texts-reads
 
 row-texts-requires : tie.Need-row-texts-requires
 row-texts-requires c κs = search needs
@@ -13,13 +11,21 @@ slice-aggregate-append : tie.Need-slice-aggregate-append
 slice-aggregate-append c = search needs
 
 append-requires : tie.Need-append-requires
-append-requires c κs = ?
+append-requires c κs =
+    let s = c .before .before .before .before .before .before .before in
+    let narrow = s .pre .rows .narrow in
+    omega (arith, s .pre .rows .space, texts-end (s .args .card) (s .args .state .now) (s .args .j) (s .args .card .columns) (c .before .before .before .before .row-texts .ensures))
 
 same-length : tie.Need-same-length
 same-length c = search needs
 
 returns : tie.Need-returns
-returns c = ?
+returns c =
+    let s = c .before .before .before .before .before .before .before .before .before .before in
+    let p = c .before .before .before .before .before .before .before .row-texts .ensures in
+    let narrow = s .pre .rows .narrow in
+    appended-more p (c .before .before .append .ensures)
+    (omega (arith, s .pre .rows .space, texts-end (s .args .card) (s .args .state .now) (s .args .j) (s .args .card .columns) p))
 
 pub row-line-spec : {M : Type 1} → statement M
 row-line-spec =

@@ -1,54 +1,62 @@
+use mathlib.Core.Path.{refl}
+use Prim.Native.Nat.{_-_}
+use native.Mathlib.Omega.{arith}
+use borrow.Author.Needs.{needs}
+use Rattle.rules.specs.Play.{rowTexts}
+use Rattle.play.proofs.Laws.{Printing, printing-none, printing-more, printed-all, length-cell, texts-end}
 use Rattle.play.proofs.print.row_texts.Statement.{statement}
 use Rattle.play.proofs.print.row_texts.Tie as tie
-use Rattle.play.proofs.print.row_texts.Reads as reads
-use Rattle.play.proofs.print.row_texts.Lts as lts
-use Rattle.play.proofs.print.append_comma.Reads as append-comma-reads
-use Rattle.play.proofs.print.append_depth.Reads as append-depth-reads
 
 abbrev Inv-loop : tie.InvT-loop
-Inv-loop state j out₀ at columns from i₀ end₀ out i end = ?
+Inv-loop card state j out₀ at columns i₀ end₀ out i end = Printing (rowTexts card state j) columns at out₀ i end out
 
 abbrev μ-loop : tie.MeasureT-loop
-μ-loop state j out₀ at columns from i₀ end₀ out i end = ?
+μ-loop card state j out₀ at columns i₀ end₀ out i end = columns - i
 
 cast-columns : tie.Need-cast-columns Inv-loop μ-loop
-cast-columns c = ?
-
-mul-from : tie.Need-mul-from Inv-loop μ-loop
-mul-from c = ?
+cast-columns c = search needs
 
 loop-holds : tie.Need-loop-holds Inv-loop μ-loop
-loop-holds c = ?
+unfolding rowTexts
+loop-holds c = printing-none refl
 
-append-comma-requires : tie.Need-append-comma-requires Inv-loop μ-loop
-append-comma-requires c κs = ?
-
-add-append-depth : tie.Need-add-append-depth Inv-loop μ-loop
-add-append-depth c = ?
-
-mul-append-depth : tie.Need-mul-append-depth Inv-loop μ-loop
-mul-append-depth c = ?
-
-shared-slice-copy-out-append-depth : tie.Need-shared-slice-copy-out-append-depth Inv-loop μ-loop
-shared-slice-copy-out-append-depth c = ?
-
-append-depth-requires : tie.Need-append-depth-requires Inv-loop μ-loop
-append-depth-requires c κs = ?
+append-cell-requires : tie.Need-append-cell-requires Inv-loop μ-loop
+append-cell-requires c κs =
+    let s = c .before .before .before .before .before in
+    let p = c .before .before .loop .inv in
+    let far = texts-end (s .args .card) (s .args .state .now) (s .args .j) (c .before .before .loop .i) (p .put) in
+    let long = p .long in
+    let test = c .before .loop-test .taken in
+    let space = s .pre .rows .space in
+    record {
+      rows = record { narrow = s .pre .rows .narrow; short = s .pre .rows .short; held = s .pre .rows .held; space = omega arith };
+      row = s .pre .row;
+      column = test;
+    }
 
 add-i : tie.Need-add-i Inv-loop μ-loop
-add-i c = ?
+add-i c = omega arith
 
 loop-less : tie.Need-loop-less Inv-loop μ-loop
-loop-less c = ?
+loop-less c = omega arith
 
 loop-again : tie.Need-loop-again Inv-loop μ-loop
-loop-again c = ?
+unfolding rowTexts
+loop-again c =
+    let s = c .before .before .before .before .before .before .before .before in
+    let p = c .before .before .before .before .before .loop .inv in
+    let q = c .before .before .append-cell .ensures in
+    let test = c .before .before .before .before .loop-test .taken in
+    let far = texts-end (s .args .card) (s .args .state .now) (s .args .j) (c .before .before .before .before .before .loop .i) (p .put) in
+    let short = length-cell (s .args .card) (s .args .state .now) (c .before .before .before .before .before .loop .i) (s .args .j) in
+    let space = s .pre .rows .space in
+    printing-more p test refl q (omega (arith, q .stop))
 
 same-length : tie.Need-same-length Inv-loop μ-loop
-same-length c = ?
+same-length c = search needs
 
 returns : tie.Need-returns Inv-loop μ-loop
-returns c = ?
+returns c = printed-all (c .before .loop .inv) (c .loop-test .left)
 
 pub row-texts-spec : {M : Type 1} → statement M
 row-texts-spec =
@@ -57,13 +65,8 @@ row-texts-spec =
     Inv-loop
     μ-loop
     cast-columns
-    mul-from
     loop-holds
-    append-comma-requires
-    add-append-depth
-    mul-append-depth
-    shared-slice-copy-out-append-depth
-    append-depth-requires
+    append-cell-requires
     add-i
     loop-less
     loop-again
