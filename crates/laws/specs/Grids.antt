@@ -169,7 +169,7 @@ allAt-swap m n p q h = both-ways (allAt n m q) (allAt m n p) to from
 
 -- ---- greatest
 
-max-left : (a b : ℤ) → T (leZ a (maxZ a b))
+pub max-left : (a b : ℤ) → T (leZ a (maxZ a b))
 max-left a b = go (leZ a b) refl
   where
     go : (t : Bool) → leZ a b ≡ t → T (leZ a (cond t b a))
@@ -182,14 +182,14 @@ leZ-total (pos a) (negsuc b) t = tt
 leZ-total (negsuc a) (pos b) t = absurd t
 leZ-total (negsuc a) (negsuc b) t = lib.Dec.le→leb a b (let h = lib.Dec.nleb→lt b a t in omega arith)
 
-max-right : (a b : ℤ) → T (leZ b (maxZ a b))
+pub max-right : (a b : ℤ) → T (leZ b (maxZ a b))
 max-right a b = go (leZ a b) refl
   where
     go : (t : Bool) → leZ a b ≡ t → T (leZ b (cond t b a))
     go true e = leZ-refl b
     go false e = leZ-total a b (rw e tt)
 
-max-le : (a b c : ℤ) → T (leZ a c) → T (leZ b c) → T (leZ (maxZ a b) c)
+pub max-le : (a b c : ℤ) → T (leZ a c) → T (leZ b c) → T (leZ (maxZ a b) c)
 max-le a b c h k = go (leZ a b)
   where
     go : (t : Bool) → T (leZ (cond t b a) c)

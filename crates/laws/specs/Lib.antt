@@ -4,6 +4,10 @@ pub mod Grids
 pub mod States
 pub mod Checks
 pub mod Limit
+pub mod Runs
+pub mod Walls
+pub mod Keeps
+pub mod Maxima
 pub mod Decimals
 pub mod Laid
 pub mod Bytes

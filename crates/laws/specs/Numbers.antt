@@ -1,44 +1,21 @@
--- Laws of the integers that the kit lacks: signs in products and quotients, sums in another order, the order of `leZ`.
-use Prim.Native.Nat.{ℕ, zero, suc, _+_, _*_, _-_, _/_, zero-le}
-use mathlib.Core.Path.{_≡_, refl, sym, ap, _∙_}
+-- Laws of the integers that the kit lacks: the order of `leZ`, and signs.
+use Prim.Native.Nat.{ℕ, zero, suc, _+_, _-_, zero-le}
+use mathlib.Core.Path.{_≡_, refl, ap}
 use mathlib.Core.Bool.{Bool, true, false, cond}
-use native.Mathlib.Nat.{zero-div, zero-mul, le-refl, le-trans, le-antisymm}
+use native.Mathlib.Nat.{le-refl, le-trans, le-antisymm}
 use native.Mathlib.Omega.{arith}
-use lib.IntN.{ℤ, pos, negsuc, negℤ, natAbs, _+ℤ_, _*ℤ_, negℤ-negℤ, negℤ-+ℤ, +ℤ-comm, +ℤ-assoc, *ℤ-comm}
-use lib.Signed.{leZ, quotZ}
+use lib.IntN.{ℤ, pos, negsuc, negℤ, natAbs, _+ℤ_}
+use lib.Signed.{leZ}
 use lib.Dec.{T, ltb, leb→le, le→leb, lt→ltb}
 use lib.Arith.{le→nltb}
 use Rattle.laws.specs.Tests.{true-of, false-of}
-
-pub neg-mul : (a b : ℤ) → negℤ a *ℤ b ≡ negℤ (a *ℤ b)
-neg-mul (pos zero) (pos b) = rw zero-mul
-neg-mul (pos zero) (negsuc b) = rw zero-mul
-neg-mul (pos (suc a)) (pos b) = refl
-neg-mul (pos (suc a)) (negsuc b) = sym (negℤ-negℤ (pos (suc a * suc b)))
-neg-mul (negsuc a) (pos b) = sym (negℤ-negℤ (pos (suc a * b)))
-neg-mul (negsuc a) (negsuc b) = refl
-
-pub mul-neg : (a b : ℤ) → a *ℤ negℤ b ≡ negℤ (a *ℤ b)
-mul-neg a b = *ℤ-comm a (negℤ b) ∙ neg-mul b a ∙ ap negℤ (*ℤ-comm b a)
-
-pub neg-quot : (a b : ℤ) → quotZ (negℤ a) b ≡ negℤ (quotZ a b)
-neg-quot (pos zero) (pos b) = rw zero-div
-neg-quot (pos zero) (negsuc b) = rw zero-div
-neg-quot (pos (suc a)) (pos b) = refl
-neg-quot (pos (suc a)) (negsuc b) = sym (negℤ-negℤ (pos (suc a / suc b)))
-neg-quot (negsuc a) (pos b) = sym (negℤ-negℤ (pos (suc a / b)))
-neg-quot (negsuc a) (negsuc b) = refl
+-- the signs in sums, products and quotients, which `Fair` needs too
+pub use Rattle.rules.specs.Signs.{neg-mul, mul-neg, neg-quot, +ℤ-left-comm, sums}
 
 pub abs-neg : (a : ℤ) → natAbs (negℤ a) ≡ natAbs a
 abs-neg (pos zero) = refl
 abs-neg (pos (suc n)) = refl
 abs-neg (negsuc n) = refl
-
-pub +ℤ-left-comm : (a b c : ℤ) → a +ℤ (b +ℤ c) ≡ b +ℤ (a +ℤ c)
-+ℤ-left-comm a b c = sym (+ℤ-assoc a b c) ∙ ap (λ (x : ℤ). x +ℤ c) (+ℤ-comm a b) ∙ +ℤ-assoc b a c
-
--- sums, sorted, with the signs at their leaves
-pub ruleset sums = (+ℤ-assoc, +ℤ-comm, +ℤ-left-comm, negℤ-+ℤ, negℤ-negℤ, neg-mul, mul-neg)
 
 -- ---- the order
 

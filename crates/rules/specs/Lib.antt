@@ -1,6 +1,8 @@
 pub mod Grid
 pub mod Site
 pub mod Step
+pub mod Signs
+pub mod Fair
 pub mod Run
 pub mod Turn
 pub mod Search
@@ -9,3 +11,4 @@ pub mod Text
 pub mod Play
 pub mod Calls
 pub mod Starred
+pub mod Contracts
