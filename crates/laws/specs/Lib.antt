@@ -22,3 +22,5 @@ pub mod Exact
 pub mod Bounded
 pub mod Linear
 pub mod Signs
+pub mod Sheets
+pub mod Outcomes
