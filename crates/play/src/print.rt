@@ -68,7 +68,8 @@ fn size(top: i32) -> u32
 // Steps done, reason and top.
 pub fn tally_line(tally: Tally, out: &mut [u8]) -> usize
     requires { ⌜ 50 ≤ length (now out) ⌝ }
-    ensures { λ r. ⌜ Appended (tallyLine tally) 0 r (now (out .entry)) (now (out .exit)) ⌝ }
+    ensures text { λ r. ⌜ Appended (tallyLine tally) 0 r (now (out .entry)) (now (out .exit)) ⌝ }
+    ensures end { λ r. ⌜ r ≤ 50 ⌝ }
 {
     let steps = append_labelled(b"steps ", tally.steps, out, 0);
     let reason = append_labelled(b" reason ", tally.reason, out, steps);
@@ -87,13 +88,22 @@ fn append_comma(i: usize, out: &mut [u8], at: usize) -> usize
     append(b", ", out, at)
 }
 
+// Where the heights of row j begin: rows run south to north.
+fn row_start(card: Card, j: usize) -> usize
+    requires { ⌜ j * card .columns ≤ 1024 ⌝ }
+    ensures { λ r. ⌜ r ≡ j * card .columns ⌝ }
+{
+    let columns = card.columns as usize;
+    j * columns
+}
+
 // The depth text of a cell, joined to those before it.
 fn append_cell(card: Card, state: &[i32], i: usize, j: usize, out: &mut [u8], at: usize) -> usize
     requires { ⌜ Cell card (now state) i j (at + 9) (length (now out)) ⌝ }
     ensures { λ r. ⌜ Appended (cellText card (now (state .entry)) i j) at r (now (out .entry)) (now (out .exit)) ⌝ }
 {
-    let columns = card.columns as usize;
-    let height = state[j * columns + i];
+    let start = row_start(card, j);
+    let height = state[start + i];
     let text = append_comma(i, out, at);
     append_depth(height, out, text)
 }

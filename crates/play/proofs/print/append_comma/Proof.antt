@@ -1,4 +1,5 @@
-use Rattle.play.proofs.Laws.{appended-same, appended-none, separator-first, separator-other}
+use Rattle.play.proofs.Laws.{appended-same, appended-none}
+use Rattle.play.proofs.Lengths.{separator-first, separator-other}
 use borrow.Author.Needs.{needs}
 use Rattle.play.proofs.print.append_comma.Statement.{statement}
 use Rattle.play.proofs.print.append_comma.Tie as tie

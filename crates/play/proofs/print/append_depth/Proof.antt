@@ -1,7 +1,8 @@
 use borrow.Author.Needs.{needs}
 use Rattle.text.proofs.Laws.{told-put, put-same, signed-same}
 use native.Mathlib.Omega.{arith}
-use Rattle.play.proofs.Laws.{put-appended, put-ends, length-depth}
+use Rattle.play.proofs.Laws.{put-appended, put-ends}
+use Rattle.play.proofs.Lengths.{length-depth}
 use Rattle.play.proofs.print.append_depth.Statement.{statement}
 use Rattle.play.proofs.print.append_depth.Tie as tie
 

@@ -1,6 +1,7 @@
 use native.Mathlib.Omega.{arith}
 use Rattle.rules.specs.Play.{refusedWord, refusedLine}
-use Rattle.play.proofs.Laws.{appended-more, labelled-ends}
+use Rattle.play.proofs.Laws.{appended-more}
+use Rattle.play.proofs.Lengths.{labelled-ends}
 use borrow.Author.Needs.{needs}
 use Rattle.play.proofs.print.refused_line.Statement.{statement}
 use Rattle.play.proofs.print.refused_line.Tie as tie

@@ -1,5 +1,6 @@
 use native.Mathlib.Omega.{arith}
-use Rattle.play.proofs.Laws.{appended-more, texts-end}
+use Rattle.play.proofs.Laws.{appended-more}
+use Rattle.play.proofs.Lengths.{texts-end}
 use borrow.Author.Needs.{needs}
 use Rattle.play.proofs.print.row_line.Statement.{statement}
 use Rattle.play.proofs.print.row_line.Tie as tie

@@ -3,7 +3,8 @@ use Prim.Native.Nat.{_-_}
 use native.Mathlib.Omega.{arith}
 use borrow.Author.Needs.{needs}
 use Rattle.rules.specs.Play.{rowLines}
-use Rattle.play.proofs.Laws.{Printing, printing-none, printing-more, printed-all, length-line, lines-end}
+use Rattle.play.proofs.Lengths.{length-line, lines-end}
+use Rattle.play.proofs.Loops.{Printing, printing-none, printing-more, printed-all}
 use Rattle.play.proofs.print.row_lines.Statement.{statement}
 use Rattle.play.proofs.print.row_lines.Tie as tie
 

@@ -3,7 +3,8 @@ use Prim.Native.Nat.{_-_}
 use native.Mathlib.Omega.{arith}
 use borrow.Author.Needs.{needs}
 use Rattle.rules.specs.Play.{rowTexts}
-use Rattle.play.proofs.Laws.{Printing, printing-none, printing-more, printed-all, length-cell, texts-end}
+use Rattle.play.proofs.Lengths.{length-cell, texts-end}
+use Rattle.play.proofs.Loops.{Printing, printing-none, printing-more, printed-all}
 use Rattle.play.proofs.print.row_texts.Statement.{statement}
 use Rattle.play.proofs.print.row_texts.Tie as tie
 

@@ -5,7 +5,8 @@ use mir.Val.{toZ, ofZ}
 use Prim.Native.Nat.{_+_, _≤_}
 use native.Mathlib.Omega.{arith}
 use Rattle.rules.specs.Play.{stepsWord, reasonWord, topWord, labelled, tallyLine}
-use Rattle.play.proofs.Laws.{appended-more, appended-same, labelled-ends}
+use Rattle.play.proofs.Laws.{appended-more, appended-same}
+use Rattle.play.proofs.Lengths.{labelled-ends}
 use borrow.Author.Needs.{needs}
 use Rattle.play.proofs.print.tally_line.Statement.{statement}
 use Rattle.play.proofs.print.tally_line.Tie as tie
@@ -60,10 +61,11 @@ returns c =
     let a = steps-end (c .before .before .before .before .before .before .before .before .before .before .before .before .before .before .before .before .before .before .before) in
     let d = reason-end (c .before .before .before .before .before .before .before .before .before .before .before .before .before .before) in
     let e = top-end (c .before .before .before .before .before .before .before) in
+    let f = c .before .before .append .ensures in
     let long = start .pre in
     let told : toZ w32 (ofZ w32 (start .args .tally .top)) ≡ start .args .tally .top = search needs in
     let top = c .before .before .before .before .before .before .before .before .before .size .ensures ∙ ap natAbs told in
-    appended-more p (appended-more q (appended-more (appended-same (ap (labelled topWord) top) r) (c .before .before .append .ensures) (omega arith)) (omega arith)) (omega arith)
+    (appended-more p (appended-more q (appended-more (appended-same (ap (labelled topWord) top) r) f (omega arith)) (omega arith)) (omega arith), omega (arith, f .stop))
 
 pub tally-line-spec : {M : Type 1} → statement M
 tally-line-spec =
