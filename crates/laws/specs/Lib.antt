@@ -4,6 +4,13 @@ pub mod Grids
 pub mod States
 pub mod Checks
 pub mod Limit
+pub mod Passes
+pub mod Looks
+pub mod Parts
+pub mod Reading
+pub mod Signed
+pub mod Places
+pub mod Copies
 pub mod Runs
 pub mod Walls
 pub mod Keeps
@@ -23,4 +30,13 @@ pub mod Bounded
 pub mod Linear
 pub mod Signs
 pub mod Sheets
+pub mod Outcomes
+pub mod Sizes
+pub mod Transfers
+pub mod Exact
+pub mod Bounded
+pub mod Tested
+pub mod Velocities
+pub mod Behind
+pub mod Linear
 pub mod Outcomes

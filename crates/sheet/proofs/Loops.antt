@@ -1,5 +1,5 @@
 -- One turn of each loop over bytes and words.
-use Prim.Native.Nat.{ℕ, suc, _+_, _*_, _/_, _%_, _^_, _<_, _≤_}
+use Prim.Native.Nat.{ℕ, suc, _+_, _*_, _-_, _/_, _%_, _^_, _<_, _≤_}
 use mathlib.Core.Path.{_≡_, sym, ap, ap₂, _∙_}
 use mathlib.Core.List.{List, [], _∷_, _++_, append-assoc, append-nil}
 use native.Mathlib.Nat.{pow-suc, pow-le-pow-right}
@@ -29,19 +29,25 @@ below-more i n b h l = rw (add-one, pow-suc) (omega arith)
 pub number-turn : (s : List ℕ) (at i n b : ℕ) → n ≡ numberIn i (drop at s) → b ≡ getD s (at + i) 0 → n * 256 + b ≡ numberIn (i + 1) (drop at s)
 number-turn s at i n b p q = ap₂ (λ (x y : ℕ). x * 256 + y) p (q ∙ sym (getD-drop at s i 0)) ∙ sym (number-more i (drop at s))
 
--- ---- put_number: the first i bytes of `rest` are still to be laid
+-- ---- put_number: the first k - i bytes of `rest` are still to be laid
 
-pub put-turn : (out done : List ℕ) (at i j rest : ℕ) → i ≡ suc j → at + i ≤ length out → laid out at (bytesOf i rest) ≡ done → laid (set out (at + j) (rest % 256)) at (bytesOf j (rest / 256)) ≡ done
+pub put-turn : (out done : List ℕ) (at k i rest : ℕ) → i < k → at + k ≤ length out → laid out at (bytesOf (k - i) rest) ≡ done
+    → laid (set out (at + (k - 1 - i)) (rest % 256)) at (bytesOf (k - (i + 1)) (rest / 256)) ≡ done
 unfolding bytesOf
-put-turn out done at i j rest e h p =
-    let q : laid out at (bytesOf (suc j) rest) ≡ done = ap (λ (k : ℕ). laid out at (bytesOf k rest)) (sym e) ∙ p in
-    laid-last out at (bytesOf j (rest / 256)) (rest % 256) (at + j) (ap (λ (k : ℕ). at + k) (sym (length-bytes j (rest / 256)))) (omega arith) ∙ q
+put-turn out done at k i rest l h p =
+    let j = k - 1 - i in
+    let e : k - i ≡ suc j = omega arith in
+    let f : k - (i + 1) ≡ j = omega arith in
+    let q : laid out at (bytesOf (suc j) rest) ≡ done = ap (λ (x : ℕ). laid out at (bytesOf x rest)) (sym e) ∙ p in
+    ap (λ (x : ℕ). laid (set out (at + j) (rest % 256)) at (bytesOf x (rest / 256))) f
+    ∙ laid-last out at (bytesOf j (rest / 256)) (rest % 256) (at + j) (ap (λ (x : ℕ). at + x) (sym (length-bytes j (rest / 256)))) (omega arith)
+    ∙ q
 
-pub put-end : (out done : List ℕ) (at i rest : ℕ) → i ≤ 0 → laid out at (bytesOf i rest) ≡ done → out ≡ done
+pub put-end : (out done : List ℕ) (at k i rest : ℕ) → k ≤ i → laid out at (bytesOf (k - i) rest) ≡ done → out ≡ done
 unfolding bytesOf
-put-end out done at i rest h p =
-    let e : i ≡ 0 = omega arith in
-    sym (laid-none out at) ∙ ap (λ (k : ℕ). laid out at (bytesOf k rest)) (sym e) ∙ p
+put-end out done at k i rest h p =
+    let e : k - i ≡ 0 = omega arith in
+    sym (laid-none out at) ∙ ap (λ (x : ℕ). laid out at (bytesOf x rest)) (sym e) ∙ p
 
 -- ---- get_words: the first i words are read; old is the list that was lent
 

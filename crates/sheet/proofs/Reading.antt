@@ -11,10 +11,10 @@ use lib.Seq.{take-all, take-take, take-add, take-at, drop-at, drop-drop, length-
 use lib.Dec.{eqb}
 use borrow.Author.Tests.{le-leb, lt-leb, eq-eqb}
 use Rattle.rules.specs.declared.Card.{Card}
-use Rattle.rules.specs.declared.Heard.{Heard}
 use Rattle.rules.specs.Site.{stateLength, cardFits, lengthsFit, valuesFit, readGround, readState, firstOf}
 use Rattle.rules.specs.Sheet.{numberIn, wordsIn, cardIn, groundIn, stateIn, headFits, sheetLengthsFit, readNumber, noCard}
 use Rattle.rules.specs.Calls.{readAnswer, readGroundList, readStateList}
+use Rattle.rules.specs.Contracts.{ReadContract}
 use Rattle.laws.specs.Facts.{Sized, card-facts}
 use Rattle.laws.specs.Outcomes.{if-done, if-refused}
 use Rattle.laws.specs.Words.{in-add}
@@ -185,31 +185,26 @@ pub read-few : (l : List ℕ) (n m : ℕ) → readNumber l n m ≡ 0 → n + m �
 unfolding stateLength
 read-few l n m e = let r = read-facts l n m e in let k = card-facts (cardIn l) (r .card) in let s = r .sizes in omega arith
 
-pub record Outcome (l : List ℕ) (ground state : List ℤ) (a : Heard) (g s : List ℤ) : Type 0 where
-  pub answer : a ≡ readAnswer l ground state
-  pub ground-list : g ≡ readGroundList l ground state
-  pub state-list : s ≡ readStateList l ground state
-
 module _ (l : List ℕ) (ground state : List ℤ) (r : ℕ) (e : r ≡ readNumber l (length ground) (length state)) where
   abbrev number : ℕ
   number = readNumber l (length ground) (length state)
 
-  pub refused : (c : Card) → c ≡ noCard → (r ≡ 0 → ⊥) → Outcome l ground state (record { number = r; card = c }) ground state
+  pub refused : (c : Card) → c ≡ noCard → (r ≡ 0 → ⊥) → ReadContract l ground state (record { number = r; card = c }) ground state
   unfolding readAnswer readGroundList readStateList
   refused c p h =
       let k : number ≡ 0 → ⊥ = λ z. h (e ∙ z) in
       record {
         answer = λ i. record { number = e i; card = (p ∙ sym (if-refused number (cardIn l) noCard k)) i };
-        ground-list = sym (if-refused number (groundIn l) ground k);
-        state-list = sym (if-refused number (stateIn l) state k);
+        ground-exit = sym (if-refused number (groundIn l) ground k);
+        state-exit = sym (if-refused number (stateIn l) state k);
       }
 
-  pub accepted : (c : Card) (g s : List ℤ) → c ≡ cardIn l → g ≡ groundIn l → s ≡ stateIn l → r ≡ 0 → Outcome l ground state (record { number = 0; card = c }) g s
+  pub accepted : (c : Card) (g s : List ℤ) → c ≡ cardIn l → g ≡ groundIn l → s ≡ stateIn l → r ≡ 0 → ReadContract l ground state (record { number = 0; card = c }) g s
   unfolding readAnswer readGroundList readStateList
   accepted c g s p q w z =
       let k : number ≡ 0 = sym e ∙ z in
       record {
         answer = λ i. record { number = sym k i; card = (p ∙ sym (if-done number (cardIn l) noCard k)) i };
-        ground-list = q ∙ sym (if-done number (groundIn l) ground k);
-        state-list = w ∙ sym (if-done number (stateIn l) state k);
+        ground-exit = q ∙ sym (if-done number (groundIn l) ground k);
+        state-exit = w ∙ sym (if-done number (stateIn l) state k);
       }

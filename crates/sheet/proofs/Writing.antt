@@ -10,10 +10,10 @@ use lib.ListN.{length, drop, length-append}
 use lib.Dec.{leb}
 use borrow.Author.Tests.{le-leb, lt-leb, leb-true}
 use Rattle.rules.specs.declared.Card.{Card}
-use Rattle.rules.specs.declared.Wrote.{Wrote}
 use Rattle.rules.specs.Site.{stateLength, cardFits, lengthsFit, valuesFit, readGround, readState, check}
 use Rattle.rules.specs.Sheet.{bytesOf, wordsBytes, sheetSize, header, sheetOf}
 use Rattle.rules.specs.Calls.{writeNumber, writeAnswer, writeBytes}
+use Rattle.rules.specs.Contracts.{WriteContract}
 use Rattle.laws.specs.Outcomes.{first-refused, first-passed, both-passed, if-done, if-refused}
 use Rattle.laws.specs.Checks.{apart}
 use Rattle.laws.specs.Facts.{length-facts}
@@ -104,28 +104,24 @@ sheet-laid c g s o₀ o₁ o₂ o₃ k p₁ p₂ p₃ =
 
 -- ---- the outcomes
 
-pub record Outcome (c : Card) (g s : List ℤ) (bytes : List ℕ) (a : Wrote) (o : List ℕ) : Type 0 where
-  pub answer : a ≡ writeAnswer c g s bytes
-  pub bytes-list : o ≡ writeBytes c g s bytes
-
 module _ (c : Card) (g s : List ℤ) (bytes : List ℕ) (r : ℕ) (e : r ≡ writeNumber c g s (length bytes)) where
   abbrev number : ℕ
   number = writeNumber c g s (length bytes)
 
-  pub write-refused : (r ≡ 0 → ⊥) → Outcome c g s bytes (record { number = r; size = 0 }) bytes
+  pub write-refused : (r ≡ 0 → ⊥) → WriteContract c g s bytes (record { number = r; size = 0 }) bytes
   unfolding writeAnswer writeBytes
   write-refused h =
       let k : number ≡ 0 → ⊥ = λ z. h (e ∙ z) in
       record {
         answer = λ i. record { number = e i; size = sym (if-refused number (sheetSize c) 0 k) i };
-        bytes-list = sym (if-refused number (sheetOf c g s ++ drop (sheetSize c) bytes) bytes k);
+        bytes-exit = sym (if-refused number (sheetOf c g s ++ drop (sheetSize c) bytes) bytes k);
       }
 
-  pub write-done : (n : ℕ) (o : List ℕ) → n ≡ sheetSize c → o ≡ sheetOf c g s ++ drop (sheetSize c) bytes → r ≡ 0 → Outcome c g s bytes (record { number = 0; size = n }) o
+  pub write-done : (n : ℕ) (o : List ℕ) → n ≡ sheetSize c → o ≡ sheetOf c g s ++ drop (sheetSize c) bytes → r ≡ 0 → WriteContract c g s bytes (record { number = 0; size = n }) o
   unfolding writeAnswer writeBytes
   write-done n o p q z =
       let k : number ≡ 0 = sym e ∙ z in
       record {
         answer = λ i. record { number = sym k i; size = (p ∙ sym (if-done number (sheetSize c) 0 k)) i };
-        bytes-list = q ∙ sym (if-done number (sheetOf c g s ++ drop (sheetSize c) bytes) bytes k);
+        bytes-exit = q ∙ sym (if-done number (sheetOf c g s ++ drop (sheetSize c) bytes) bytes k);
       }

@@ -30,10 +30,9 @@ pub fn put_number(out: &mut [u8], at: usize, k: usize, n: u32)
     ensures { λ _. ⌜ now (out .exit) ≡ laid (now (out .entry)) at (bytesOf k n) ⌝ }
 {
     let mut rest = n;
-    let mut i = k;
-    while 0 < i {
-        i -= 1;
-        out[at + i] = (rest % 256) as u8;
+    for i in 0..k {
+        let place = k - 1 - i;
+        out[at + place] = (rest % 256) as u8;
         rest = rest / 256;
     }
 }

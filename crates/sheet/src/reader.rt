@@ -6,7 +6,7 @@ ghost use mathlib.Core.List.{_++_};
 ghost use lib.ListN.{length, take, drop};
 ghost use Rattle.rules.specs.Site.{cells, stateLength, cardFits, valuesFit, readGround, readState};
 ghost use Rattle.rules.specs.Sheet.{cardIn, groundIn, stateIn, headFits, sheetSize, readNumber, noCard};
-ghost use Rattle.rules.specs.Calls.{readAnswer, readGroundList, readStateList};
+ghost use Rattle.rules.specs.Contracts.{ReadContract};
 ghost use Rattle.sheet.specs.Lent.{Joined, Ready};
 ghost use Rattle.sheet.specs.Front.{frontNumber, sheetValuesFit};
 use crate::numbers;
@@ -108,9 +108,9 @@ fn look(sheet: &[u8], n: usize, m: usize, draft: &mut [i32]) -> u32
     ensures number { λ r. ⌜ r ≡ readNumber (now (sheet .entry)) n m ⌝ }
     ensures words { λ r. ⌜ (r ≡ 0 → take (n + m) (now (draft .exit)) ≡ groundIn (now (sheet .entry)) ++ stateIn (now (sheet .entry))) ⌝ }
 {
-    let number = front_number(sheet, n, m);
-    if number != 0 {
-        return number;
+    let front = front_number(sheet, n, m);
+    if front != 0 {
+        return front;
     }
     let end = n + m;
     if !read_words(sheet, n, &mut draft[..end]) {
@@ -145,9 +145,7 @@ fn no_card() -> Card
 // The reader over a draft.
 fn read_over(sheet: &[u8], ground: &mut [i32], state: &mut [i32], draft: &mut [i32]) -> Heard
     requires { ⌜ length (now draft) ≡ 65792 ⌝ }
-    ensures answer { λ r. ⌜ r ≡ readAnswer (now (sheet .entry)) (now (ground .entry)) (now (state .entry)) ⌝ }
-    ensures ground { λ _. ⌜ now (ground .exit) ≡ readGroundList (now (sheet .entry)) (now (ground .entry)) (now (state .entry)) ⌝ }
-    ensures state { λ _. ⌜ now (state .exit) ≡ readStateList (now (sheet .entry)) (now (ground .entry)) (now (state .entry)) ⌝ }
+    ensures { λ r. ⌜ ReadContract (now (sheet .entry)) (now (ground .entry)) (now (state .entry)) r (now (ground .exit)) (now (state .exit)) ⌝ }
 {
     let n = ground.len();
     let m = state.len();
@@ -165,9 +163,7 @@ fn read_over(sheet: &[u8], ground: &mut [i32], state: &mut [i32], draft: &mut [i
 
 // The site of a sheet.
 pub fn read_sheet(sheet: &[u8], ground: &mut [i32], state: &mut [i32]) -> Heard
-    ensures answer { λ r. ⌜ r ≡ readAnswer (now (sheet .entry)) (now (ground .entry)) (now (state .entry)) ⌝ }
-    ensures ground { λ _. ⌜ now (ground .exit) ≡ readGroundList (now (sheet .entry)) (now (ground .entry)) (now (state .entry)) ⌝ }
-    ensures state { λ _. ⌜ now (state .exit) ≡ readStateList (now (sheet .entry)) (now (ground .entry)) (now (state .entry)) ⌝ }
+    ensures { λ r. ⌜ ReadContract (now (sheet .entry)) (now (ground .entry)) (now (state .entry)) r (now (ground .exit)) (now (state .exit)) ⌝ }
 {
     let mut draft = blank();
     read_over(sheet, ground, state, &mut draft)

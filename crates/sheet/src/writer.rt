@@ -5,7 +5,8 @@ ghost use Prim.Native.Nat.{_≤_};
 ghost use lib.ListN.{length};
 ghost use Rattle.rules.specs.Site.{cardFits};
 ghost use Rattle.rules.specs.Sheet.{header};
-ghost use Rattle.rules.specs.Calls.{writeNumber, writeAnswer, writeBytes};
+ghost use Rattle.rules.specs.Calls.{writeNumber};
+ghost use Rattle.rules.specs.Contracts.{WriteContract};
 ghost use Rattle.laws.specs.Laid.{laid};
 ghost use Rattle.sheet.specs.Lent.{Headed};
 use crate::numbers;
@@ -17,9 +18,9 @@ use rules::Wrote;
 fn write_number(card: Card, ground: &[i32], state: &[i32], room: usize) -> u32
     ensures { λ r. ⌜ r ≡ writeNumber card (now (ground .entry)) (now (state .entry)) room ⌝ }
 {
-    let number = site::check(card, ground, state);
-    if number != 0 {
-        return number;
+    let refusal = site::check(card, ground, state);
+    if refusal != 0 {
+        return refusal;
     }
     if room < reader::sheet_size(card) {
         return 8;
@@ -45,8 +46,7 @@ fn put_header(card: Card, bytes: &mut [u8])
 
 // The sheet of a site.
 pub fn write_sheet(card: Card, ground: &[i32], state: &[i32], bytes: &mut [u8]) -> Wrote
-    ensures answer { λ r. ⌜ r ≡ writeAnswer card (now (ground .entry)) (now (state .entry)) (now (bytes .entry)) ⌝ }
-    ensures bytes { λ _. ⌜ now (bytes .exit) ≡ writeBytes card (now (ground .entry)) (now (state .entry)) (now (bytes .entry)) ⌝ }
+    ensures { λ r. ⌜ WriteContract card (now (ground .entry)) (now (state .entry)) (now (bytes .entry)) r (now (bytes .exit)) ⌝ }
 {
     let number = write_number(card, ground, state, bytes.len());
     if number != 0 {

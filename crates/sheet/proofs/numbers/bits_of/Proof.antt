@@ -1,3 +1,4 @@
+-- `bits_of`: both differences are those of the definition.
 use Rattle.sheet.proofs.Signed.{neg-sub, neg-cast, neg-le, neg-result, up-cast, up-result}
 use Rattle.sheet.proofs.numbers.bits_of.Statement.{statement}
 use Rattle.sheet.proofs.numbers.bits_of.Tie as tie

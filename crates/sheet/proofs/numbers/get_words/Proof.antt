@@ -1,3 +1,4 @@
+-- `get_words`: one turn reads one word more.
 use mathlib.Core.Path.{_≡_, refl, ap, _∙_}
 use mathlib.Core.List.{_++_}
 use Prim.Native.Nat.{_-_, _≤_}

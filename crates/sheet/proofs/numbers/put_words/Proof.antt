@@ -1,3 +1,4 @@
+-- `put_words`: one turn lays one word behind those that were laid.
 use mathlib.Core.Path.{_≡_, refl, ap, _∙_}
 use Prim.Native.Nat.{_-_, _≤_}
 use native.Mathlib.Omega.{arith}

@@ -1,3 +1,4 @@
+-- `value_of`: both differences are those of the definition.
 use mathlib.Core.Path.{sym, _∙_, subst⁻¹}
 use mir.Syntax.{w32}
 use mir.Val.{SFits}

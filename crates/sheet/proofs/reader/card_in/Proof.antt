@@ -1,3 +1,4 @@
+-- `card_in`: field by field.
 use Rattle.rules.specs.Sheet.{cardIn}
 use borrow.Author.Needs.{needs}
 use Rattle.sheet.proofs.reader.card_in.Statement.{statement}

@@ -1,3 +1,4 @@
+-- `copy`: one turn copies one word more.
 use mathlib.Core.Path.{_≡_, refl, _∙_}
 use Prim.Native.Nat.{_-_, _≤_}
 use native.Mathlib.Omega.{arith}

@@ -1,3 +1,4 @@
+-- `front_number`: each number is given where its test is the first that fails.
 use mathlib.Core.Path.{_≡_, sym, ap, _∙_}
 use mathlib.Core.Bool.{true, _&&_}
 use lib.Dec.{eqb}

@@ -1,3 +1,4 @@
+-- `head_fits`: a sheet of at least 19 bytes has the fields that the definition reads.
 use Rattle.sheet.proofs.Reading.{head-short, head-long}
 use borrow.Author.Needs.{needs}
 use Rattle.sheet.proofs.reader.head_fits.Statement.{statement}

@@ -1,3 +1,4 @@
+-- `look`: 3 where the values fail, 0 where all passed, and the front's number before that.
 use mathlib.Core.Path.{_≡_, sym, _∙_}
 use Prim.Native.Nat.{_+_}
 use native.Mathlib.Nat.{suc-ne-zero}

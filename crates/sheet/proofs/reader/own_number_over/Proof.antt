@@ -1,3 +1,4 @@
+-- `own_number_over`: the lists have the lengths that the header asks for.
 use mathlib.Core.Path.{_≡_, sym, ap, _∙_}
 use mathlib.Core.Bool.{true}
 use borrow.Author.Tests.{not-true, not-false}

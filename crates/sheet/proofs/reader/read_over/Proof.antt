@@ -1,3 +1,4 @@
+-- `read_over`: the parts of the draft are the ground and the state.
 use mathlib.Core.Path.{_≡_, sym, ap, _∙_}
 use Prim.Native.Nat.{ℕ, _+_, _≤_}
 use native.Mathlib.Nat.{add-sub-cancel-left}
@@ -43,8 +44,7 @@ returns : tie.Need-returns
 returns c =
     let n = c .before .before .before in
     let a = n .before .before .before .args in
-    let o = refused (a .sheet .now) (a .ground .now) (a .state .now) (n .look .result) (n .look .ensures .0) (c .no-card .result) (c .no-card .ensures) (c .before .if1 .taken) in
-    (o .answer, (o .ground-list, o .state-list))
+    refused (a .sheet .now) (a .ground .now) (a .state .now) (n .look .result) (n .look .ensures .0) (c .no-card .result) (c .no-card .ensures) (c .before .if1 .taken)
 
 add-end : tie.Need-add-end
 add-end c = search needs
@@ -102,8 +102,7 @@ returns-2 c =
     let p = n .look .ensures .1 (e .if1 .left) in
     let g = w .copy .ensures ∙ first-part d (groundIn l) (stateIn l) i j p h in
     let t = v .copy2 .ensures ∙ ap (λ (k : ℕ). take k (drop i d)) (add-sub-cancel-left i j) ∙ second-part d (groundIn l) (stateIn l) i j p h (omega arith) in
-    let o = accepted l (a .ground .now) (a .state .now) (n .look .result) (n .look .ensures .0) (c .card-in .result) _ _ (c .card-in .ensures) g t (e .if1 .left) in
-    (o .answer, (o .ground-list, o .state-list))
+    accepted l (a .ground .now) (a .state .now) (n .look .result) (n .look .ensures .0) (c .card-in .result) _ _ (c .card-in .ensures) g t (e .if1 .left)
 
 pub read-over-spec : {M : Type 1} → statement M
 read-over-spec =

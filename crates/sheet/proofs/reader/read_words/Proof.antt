@@ -1,3 +1,4 @@
+-- `read_words`: the words that are read are the ground and then the state.
 use mathlib.Core.Path.{_∙_}
 use native.Mathlib.Omega.{arith}
 use Rattle.sheet.proofs.Reading.{ready-long, ready-ground, ready-words, ready-joined, words-checked}

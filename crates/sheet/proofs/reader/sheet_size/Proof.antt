@@ -1,3 +1,4 @@
+-- `sheet_size`: no sum wraps for a card that fits.
 use mathlib.Core.Path.{refl}
 use native.Mathlib.Omega.{arith}
 use Rattle.rules.specs.Sheet.{sheetSize}

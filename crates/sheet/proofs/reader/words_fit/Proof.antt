@@ -1,3 +1,4 @@
+-- `words_fit`: the two parts have the lengths that the card asks for.
 use mathlib.Core.Path.{sym, ap, _∙_}
 use mathlib.Core.List.{List}
 use native.Mathlib.Omega.{arith}

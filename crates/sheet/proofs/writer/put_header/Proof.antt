@@ -1,3 +1,4 @@
+-- `put_header`: eight fields, each laid behind the one before.
 use mathlib.Core.Path.{_∙_}
 use Rattle.sheet.proofs.Writing.{header-laid}
 use native.Mathlib.Omega.{arith}

@@ -1,3 +1,4 @@
+-- `write_number`: the check comes first, and 8 last.
 use mathlib.Core.Path.{sym, _∙_}
 use native.Mathlib.Omega.{arith}
 use Rattle.sheet.proofs.Writing.{write-checked, write-8, write-0, check-card}

@@ -1,3 +1,4 @@
+-- `write_sheet`: header, ground and state, each laid behind the one before.
 use mathlib.Core.Path.{sym, _∙_}
 use native.Mathlib.Omega.{arith}
 use lib.ListN.{length}
@@ -18,8 +19,7 @@ returns : tie.Need-returns
 returns c =
     let n = c .before in
     let a = n .before .before .args in
-    let o = write-refused (a .card) (a .ground .now) (a .state .now) (a .bytes .now) (n .write-number .result) (n .write-number .ensures) (c .if1 .taken) in
-    (o .answer, o .bytes-list)
+    write-refused (a .card) (a .ground .now) (a .state .now) (a .bytes .now) (n .write-number .result) (n .write-number .ensures) (c .if1 .taken)
 
 put-header-requires : tie.Need-put-header-requires
 put-header-requires c κs = let k = taken (c .before) in record { card = k .card; room = omega arith }
@@ -62,10 +62,8 @@ returns-2 c =
     let e = h .before .before in
     let n = e .before in
     let a = n .before .before .args in
-    let o =
     write-done (a .card) (a .ground .now) (a .state .now) (a .bytes .now) (n .write-number .result) (n .write-number .ensures) (c .sheet-size .result) _ (c .sheet-size .ensures .0)
-    (sheet-laid (a .card) (a .ground .now) (a .state .now) (a .bytes .now) _ _ _ (taken e) (h .put-header .ensures) (w .put-words .ensures) (v .put-words2 .ensures)) (e .if1 .left) in
-    (o .answer, o .bytes-list)
+    (sheet-laid (a .card) (a .ground .now) (a .state .now) (a .bytes .now) _ _ _ (taken e) (h .put-header .ensures) (w .put-words .ensures) (v .put-words2 .ensures)) (e .if1 .left)
 
 pub write-sheet-spec : {M : Type 1} → statement M
 write-sheet-spec =
