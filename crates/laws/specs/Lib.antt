@@ -24,13 +24,9 @@ pub mod Gather
 pub mod Between
 pub mod Values
 pub mod Facts
-pub mod Sizes
-pub mod Exact
-pub mod Bounded
-pub mod Linear
-pub mod Signs
 pub mod Sheets
 pub mod Outcomes
+pub mod Along
 pub mod Sizes
 pub mod Transfers
 pub mod Exact
@@ -39,4 +35,8 @@ pub mod Tested
 pub mod Velocities
 pub mod Behind
 pub mod Linear
-pub mod Outcomes
+pub mod Rising
+pub mod Asked
+pub mod Fronts
+pub mod Listings
+pub mod Signs

@@ -36,8 +36,8 @@ returns c =
     let space = s .pre .space in
     let far = t .1 in
     appended-more
-    (appended-same (ap tallyLine (r .0)) (t .0))
-    (appended-same (ap (λ (l : List ℤ). rowLines (s .args .card) l (s .args .card .rows)) (r .1 .0)) (c .before .before .row-lines .ensures))
+    (appended-same (ap tallyLine (r .answer)) (t .0))
+    (appended-same (ap (λ (l : List ℤ). rowLines (s .args .card) l (s .args .card .rows)) (r .state-exit)) (c .before .before .row-lines .ensures))
     (omega arith)
 
 pub print-run-spec : {M : Type 1} → statement M

@@ -13,7 +13,7 @@ use Rattle.play.proofs.print_sheet.Tie as tie
 card : (c : tie.After-read-sheet) → c .read-sheet .result .card ≡ cardIn (c .before .before .before .before .before .args .sheet .now)
 card c =
     let s = c .before .before .before .before .before in
-    ap (λ (h : Heard). h .card) (c .read-sheet .ensures .0)
+    ap (λ (h : Heard). h .card) (c .read-sheet .ensures .answer)
     ∙ card-read (s .args .sheet .now) (s .pre .number) (s .args .ground .now) (s .args .state .now) (s .pre .ground-words) (s .pre .state-words)
 
 read-sheet-requires : tie.Need-read-sheet-requires
@@ -55,8 +55,8 @@ returns c =
     appended-same
     (played-run l _ _ _ _
     (card (c .before .before .before .before .before .before .before .before .before .before .before .before))
-    (r .1 .0 ∙ ground-read l (p .number) _ _ (p .ground-words) (p .state-words))
-    (r .1 .1 ∙ state-read l (p .number) _ _ (p .ground-words) (p .state-words))
+    (r .ground-exit ∙ ground-read l (p .number) _ _ (p .ground-words) (p .state-words))
+    (r .state-exit ∙ state-read l (p .number) _ _ (p .ground-words) (p .state-words))
     (p .scratch-words))
     (c .before .before .before .before .print-run .ensures)
 
