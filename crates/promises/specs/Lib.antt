@@ -17,3 +17,5 @@ pub mod SwapNumbers
 pub mod StepsWanted
 pub mod ThereAndBack
 pub mod Sheets
+pub mod Edges
+pub mod Searches
