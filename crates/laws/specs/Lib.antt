@@ -39,3 +39,4 @@ pub mod Rising
 pub mod Asked
 pub mod Fronts
 pub mod Listings
+pub mod Signs
