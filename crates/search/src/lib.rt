@@ -1,16 +1,15 @@
-// Finding chambers: the search over two lists of numbers, and over a row of chamber records.
+// Finding chambers: the search over two lists of numbers; `row` has the parts of the search over a row of chamber records.
 mod chamber;
 mod register;
-mod row;
+pub mod row;
 mod window;
 
 ghost use mathlib.Core.Path.{_≡_};
 ghost use lib.ListN.{length};
 ghost use Rattle.rules.specs.Calls.{searchCheck};
-ghost use Rattle.rules.specs.Contracts.{SearchContract, RowSearchContract};
+ghost use Rattle.rules.specs.Contracts.{SearchContract};
 ghost use Rattle.search.specs.Checked.{Reported, Ready};
 use rules::Card;
-use rules::Chamber;
 use rules::Found;
 use rules::Window;
 
@@ -90,29 +89,4 @@ pub fn search_lists(
     }
     let mut draft = blank();
     report(card, state, xs, ys, window, depth, &mut draft, found)
-}
-
-// The search over a row of chamber records, the same answer for every input. The borrow checker covers no function over a slice of
-// structs, so this one is proved by hand, and only hands on.
-pub fn search(
-    card: Card,
-    ground: &[i32],
-    state: &[i32],
-    chambers: &[Chamber],
-    window: Window,
-    depth: i32,
-    found: &mut [u32],
-) -> Found
-    ensures { λ r. ⌜ RowSearchContract card (now (ground .entry)) (now (state .entry)) (now (chambers .entry)) window depth (now (found .entry)) r (now (found .exit)) ⌝ }
-{
-    row::search_gathered(
-        card,
-        ground,
-        state,
-        row::gather(chambers),
-        chambers.len(),
-        window,
-        depth,
-        found,
-    )
 }

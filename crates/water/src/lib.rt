@@ -48,6 +48,32 @@ pub extern "C" fn water_search_lists(
     search::search_lists(card, ground, state, xs, ys, window, depth, found)
 }
 
+// The same over a row of chamber records, with the same answer for every input. The borrow checker covers no function over a slice of structs, so this one is
+// proved by hand, and only hands on.
+#[no_mangle]
+pub extern "C" fn water_search(
+    card: Card,
+    ground: &[i32],
+    state: &[i32],
+    chambers: &[Chamber],
+    window: Window,
+    depth: i32,
+    found: &mut [u32],
+) -> Found
+    ensures { λ r. ⌜ RowSearchContract card (now (ground .entry)) (now (state .entry)) (now (chambers .entry)) window depth (now (found .entry)) r (now (found .exit)) ⌝ }
+{
+    search::row::search_gathered(
+        card,
+        ground,
+        state,
+        search::row::gather(chambers),
+        chambers.len(),
+        window,
+        depth,
+        found,
+    )
+}
+
 // The site of a sheet: the number and the card, and its ground and its state in the lent lists. Refused: an all-zero card, both lists as lent.
 #[no_mangle]
 pub extern "C" fn water_read_sheet(sheet: &[u8], ground: &mut [i32], state: &mut [i32]) -> Heard

@@ -1,4 +1,4 @@
--- `search` meets its contract: a walk of its MIR, by hand. The row is passed to `gather`, and what that returns, with the rest, to `search_gathered`. All that the proof knows of the two is that each meets its contract.
+-- `water_search` meets its contract: a walk of its MIR, by hand. The row is passed to `gather`, and what that returns, with the rest, to `search_gathered`. All that the proof knows of the two is that each meets its contract.
 -- What is plain is made anew where it is asked. The ground, the state and the row can be copied, and a copy of each is kept for the exit. `found` is passed on for good (`gave-slice`).
 use mathlib.Core.Path.{_≡_, refl, subst}
 use Prim.Native.Nat.{ℕ}
@@ -51,22 +51,22 @@ use Rattle.rules.proofs.Window as WT
 use Rattle.rules.proofs.Window.Laws as WT′
 use Rattle.rules.proofs.Found as FT
 use Rattle.rules.proofs.Found.Laws as FT′
 use Rattle.search.specs.Row.{gathered}
 use Rattle.search.specs.Gathered.{GatheredAnswer}
 use Rattle.search.proofs.Numbers.{Numbers, typed}
 use Rattle.search.proofs.Rows.{row-answers}
 use Rattle.search.proofs.row.gather as gather
 use Rattle.search.proofs.row.gather.Symbol as gather-def
 use Rattle.search.proofs.row.gather.Symbol.{name as #gather}
 use Rattle.search.proofs.row.gather.Met as gather-thm
 use Rattle.search.proofs.row.search_gathered as core
 use Rattle.search.proofs.row.search_gathered.Symbol as core-def
 use Rattle.search.proofs.row.search_gathered.Symbol.{name as #search-gathered}
 use Rattle.search.proofs.row.search_gathered.Met as core-thm
-use Rattle.search.proofs.search.Key.{name as #search}
-use Rattle.search.proofs.search as searching
-use Rattle.search.proofs.search.Statement as stated
-use Rattle.search.proofs.search.Code as code
+use Rattle.water.proofs.water_search.Key.{name as #search}
+use Rattle.water.proofs.water_search as searching
+use Rattle.water.proofs.water_search.Statement as stated
+use Rattle.water.proofs.water_search.Code as code
 
 abbrev R : RattleType
 R = T.the-row
@@ -273,9 +273,9 @@ search-meets 𝓤 H A W mem run 𝓣 known-gather known-core = walk-meets 𝓤 H
     (searching.clauses 𝓤 H A mem run) (WpFn 𝓤 H (𝓣 .C) (𝓣 .Λ) code.function) (WpFn-mono 𝓤 H (W .laws) 𝓣 code.function)
     (search-walks 𝓤 H A W mem run (𝓣 .C) (𝓣 .Λ) (fmOf 𝓤 H (W .laws) 𝓣) known-gather known-core)
 
-pub search-spec : {M : Type 1} → stated.statement M
+pub water-search-spec : {M : Type 1} → stated.statement M
 unfolding code.routine tablesOf
-search-spec 𝓤 H 𝓜 𝓖 𝓡 =
+water-search-spec 𝓤 H 𝓜 𝓖 𝓡 =
     entered 𝓤 H (tripleOf 𝓤 H (𝓖 .A) searching.signature (searching.spec 𝓤 H (𝓖 .A) (𝓜 .mem) (𝓡 .run)))
     (tables 𝓤 H 𝓜 𝓡 code.env .C) (tables 𝓤 H 𝓜 𝓡 code.env .Λ) #search code.function (code.unfolded 𝓤 H 𝓜 𝓡)
     (search-meets 𝓤 H (𝓖 .A) (givenOf 𝓤 H 𝓜 𝓖) (𝓜 .mem) (𝓡 .run) (tablesOf 𝓤 H 𝓜 (tables 𝓤 H 𝓜 𝓡 code.env))
