@@ -10,7 +10,7 @@ use lib.ListN.{length, take, drop}
 use lib.Seq.{take-at}
 use mir.Facts.{toZ-ofZ}
 use Rattle.rules.specs.Search.{listOf, listedAt}
-use Rattle.laws.specs.Places.{places-few}
+use Rattle.laws.specs.Listings.{places-few}
 use Rattle.search.specs.Checked.{Listed}
 use Rattle.search.proofs.report.Statement.{statement}
 use Rattle.search.proofs.report.Tie as tie

@@ -1,7 +1,7 @@
 -- `copy_front`: behind k turns the first k places are the draft's, and the rest is as lent.
 use Prim.Native.Nat.{_-_}
 use native.Mathlib.Omega.{arith}
-use Rattle.laws.specs.Copies.{Copied, copy-none, copy-more, copy-length, copy-all}
+use Rattle.laws.specs.Fronts.{Copied, copy-none, copy-more, copy-length, copy-all}
 use Rattle.search.proofs.register.copy_front.Statement.{statement}
 use Rattle.search.proofs.register.copy_front.Tie as tie
 

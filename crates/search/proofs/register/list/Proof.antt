@@ -11,7 +11,7 @@ use mir.Syntax.{w32}
 use mir.Val.{toZ}
 use mir.Facts.{toZ-ofZ}
 use Rattle.rules.specs.Search.{listedAt, listOf, places}
-use Rattle.laws.specs.Places.{Listing, list-none, list-few, list-length, list-yes, list-no, list-all}
+use Rattle.laws.specs.Listings.{Listing, list-none, list-few, list-length, list-yes, list-no, list-all}
 use Rattle.search.specs.Checked.{Listed}
 use Rattle.search.proofs.register.list.Statement.{statement}
 use Rattle.search.proofs.register.list.Tie as tie
