@@ -1,0 +1,29 @@
+//! The library held to document 01, call by call, against a model written from the document.
+//!
+//! `cargo test --release` runs it all (host/check does so after it has made the archive). Variables:
+//! `WATER_LONG=10` tries ten times as many cases; `WATER_SEED=n` tries others; `WATER_CASE=n` tries case n of each test alone.
+//! Random cases print their number when they fail. A call that reads or writes outside a list that it was lent meets a fence and
+//! ends the whole program with SIGSEGV.
+
+mod model;
+
+mod lent;
+mod library;
+mod rng;
+mod trials;
+mod wild;
+
+//mod baseline;
+//mod c_program;
+//mod floats;
+mod layout;
+mod numbers;
+//mod player;
+mod run;
+mod search;
+mod sheet;
+mod stack;
+mod step;
+mod text;
+mod turns;
+mod wrapper;
