@@ -13,12 +13,11 @@ mod rng;
 mod trials;
 mod wild;
 
-//mod baseline;
-//mod c_program;
-//mod floats;
+mod baseline;
+mod floats;
 mod layout;
 mod numbers;
-//mod player;
+mod player;
 mod run;
 mod search;
 mod sheet;
