@@ -3,8 +3,9 @@
 #[path = "../../src/bin/bench/plain/mod.rs"]
 mod plain;
 
+use crate::given::Given;
+use crate::lent::room;
 use crate::model;
-use crate::step::{room, Given};
 use crate::trials::trials;
 use crate::wild;
 use water::raw::{Chamber, Window};

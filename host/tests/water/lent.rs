@@ -29,7 +29,7 @@ struct Map {
 
 thread_local! {
     // maps that no list uses any more, for the next list of their size
-    static FREE: RefCell<Vec<Map>> = RefCell::new(Vec::new());
+    static FREE: RefCell<Vec<Map>> = const { RefCell::new(Vec::new()) };
 }
 
 impl Map {
@@ -123,4 +123,25 @@ impl<T> Drop for Lent<T> {
     fn drop(&mut self) {
         FREE.with(|free| free.borrow_mut().push(self.map));
     }
+}
+
+/// A list that a call is to fill: random words, and now and then the wrong length.
+pub fn room(rng: &mut Rng, length: usize) -> Vec<i32> {
+    let mut list: Vec<i32> = (0..length).map(|_| rng.next() as i32).collect();
+    if rng.percent(4) {
+        hurt_length(rng, &mut list);
+    }
+    list
+}
+
+/// A list with the wrong length: one short, one long, empty, half or double.
+pub fn hurt_length<T: Copy + Default>(rng: &mut Rng, list: &mut Vec<T>) {
+    let length = match rng.below(5) {
+        0 => list.len().saturating_sub(1),
+        1 => list.len() + 1,
+        2 => 0,
+        3 => list.len() / 2,
+        _ => list.len() * 2,
+    };
+    list.resize(length, T::default());
 }

@@ -6,10 +6,9 @@ use crate::model;
 use crate::rng::Rng;
 use water::raw::{self, Card, Chamber, Found, Heard, Tally, Window, Wrote};
 
-pub fn step(rng: &mut Rng, card: Card, ground: &[i32], state: &[i32], next: &mut Vec<i32>) -> u32 {
+pub fn step(rng: &mut Rng, card: Card, ground: &[i32], state: &[i32], next: &mut [i32]) -> u32 {
     let (g, s, n) = (Lent::new(rng, "ground", ground), Lent::new(rng, "state", state), Lent::new(rng, "next", next));
-    let number =
-        unsafe { raw::water_step(card, g.pointer(), g.length(), s.pointer(), s.length(), n.pointer(), n.length()) };
+    let number = unsafe { raw::water_step(card, g.pointer(), g.length(), s.pointer(), s.length(), n.pointer(), n.length()) };
     let expected = model::step(card, ground, state, next);
     assert_eq!(number, expected, "step of {card:?}");
     g.assert_holds(ground);
@@ -18,7 +17,7 @@ pub fn step(rng: &mut Rng, card: Card, ground: &[i32], state: &[i32], next: &mut
     number
 }
 
-pub fn run(rng: &mut Rng, card: Card, ground: &[i32], state: &mut Vec<i32>, scratch: &mut Vec<i32>) -> Tally {
+pub fn run(rng: &mut Rng, card: Card, ground: &[i32], state: &mut [i32], scratch: &mut [i32]) -> Tally {
     let (g, s, t) = (Lent::new(rng, "ground", ground), Lent::new(rng, "state", state), Lent::new(rng, "scratch", scratch));
     let tally = unsafe { raw::water_run(card, g.pointer(), g.length(), s.pointer(), s.length(), t.pointer(), t.length()) };
     let expected = model::run(card, ground, state, scratch);
@@ -39,7 +38,7 @@ pub struct Question<'a> {
     pub depth: i32,
 }
 
-pub fn search(rng: &mut Rng, q: Question, chambers: &[Chamber], found: &mut Vec<u32>) -> Found {
+pub fn search(rng: &mut Rng, q: Question, chambers: &[Chamber], found: &mut [u32]) -> Found {
     let (g, s) = (Lent::new(rng, "ground", q.ground), Lent::new(rng, "state", q.state));
     let (c, f) = (Lent::new(rng, "chambers", chambers), Lent::new(rng, "found", found));
     let answer = unsafe {
@@ -66,7 +65,7 @@ pub fn search(rng: &mut Rng, q: Question, chambers: &[Chamber], found: &mut Vec<
     answer
 }
 
-pub fn search_lists(rng: &mut Rng, q: Question, xs: &[i64], ys: &[i64], found: &mut Vec<u32>) -> Found {
+pub fn search_lists(rng: &mut Rng, q: Question, xs: &[i64], ys: &[i64], found: &mut [u32]) -> Found {
     let (g, s) = (Lent::new(rng, "ground", q.ground), Lent::new(rng, "state", q.state));
     let (x, y, f) = (Lent::new(rng, "xs", xs), Lent::new(rng, "ys", ys), Lent::new(rng, "found", found));
     let answer = unsafe {
@@ -96,11 +95,9 @@ pub fn search_lists(rng: &mut Rng, q: Question, xs: &[i64], ys: &[i64], found: &
     answer
 }
 
-pub fn read_sheet(rng: &mut Rng, sheet: &[u8], ground: &mut Vec<i32>, state: &mut Vec<i32>) -> Heard {
+pub fn read_sheet(rng: &mut Rng, sheet: &[u8], ground: &mut [i32], state: &mut [i32]) -> Heard {
     let (b, g, s) = (Lent::new(rng, "sheet", sheet), Lent::new(rng, "ground", ground), Lent::new(rng, "state", state));
-    let heard = unsafe {
-        raw::water_read_sheet(b.pointer(), b.length(), g.pointer(), g.length(), s.pointer(), s.length())
-    };
+    let heard = unsafe { raw::water_read_sheet(b.pointer(), b.length(), g.pointer(), g.length(), s.pointer(), s.length()) };
     let expected = model::read_sheet(sheet, ground, state);
     assert_eq!(heard, expected, "reading a sheet of {} bytes", sheet.len());
     b.assert_holds(sheet);
@@ -109,11 +106,10 @@ pub fn read_sheet(rng: &mut Rng, sheet: &[u8], ground: &mut Vec<i32>, state: &mu
     heard
 }
 
-pub fn write_sheet(rng: &mut Rng, card: Card, ground: &[i32], state: &[i32], bytes: &mut Vec<u8>) -> Wrote {
+pub fn write_sheet(rng: &mut Rng, card: Card, ground: &[i32], state: &[i32], bytes: &mut [u8]) -> Wrote {
     let (g, s, b) = (Lent::new(rng, "ground", ground), Lent::new(rng, "state", state), Lent::new(rng, "bytes", bytes));
-    let wrote = unsafe {
-        raw::water_write_sheet(card, g.pointer(), g.length(), s.pointer(), s.length(), b.pointer(), b.length())
-    };
+    let wrote =
+        unsafe { raw::water_write_sheet(card, g.pointer(), g.length(), s.pointer(), s.length(), b.pointer(), b.length()) };
     let expected = model::write_sheet(card, ground, state, bytes);
     assert_eq!(wrote, expected, "writing the sheet of {card:?}");
     g.assert_holds(ground);
@@ -122,7 +118,7 @@ pub fn write_sheet(rng: &mut Rng, card: Card, ground: &[i32], state: &[i32], byt
     wrote
 }
 
-pub fn depth_text(rng: &mut Rng, height: i32, scratch: &mut Vec<u8>) -> usize {
+pub fn depth_text(rng: &mut Rng, height: i32, scratch: &mut [u8]) -> usize {
     let t = Lent::new(rng, "scratch", scratch);
     let length = unsafe { raw::water_depth_text(height, t.pointer(), t.length()) };
     let expected = model::depth_text(height, scratch);

@@ -35,7 +35,8 @@ fn player() -> Command {
 
 /// What the player prints; it must end well and say nothing else.
 fn print_of(input: &[u8]) -> Vec<u8> {
-    let mut child = player().stdin(Stdio::piped()).stdout(Stdio::piped()).stderr(Stdio::piped()).spawn().expect("the player starts");
+    let mut child =
+        player().stdin(Stdio::piped()).stdout(Stdio::piped()).stderr(Stdio::piped()).spawn().expect("the player starts");
     // a player that has seen enough may stop reading before the end
     let _ = child.stdin.take().unwrap().write_all(input);
     let output = child.wait_with_output().unwrap();

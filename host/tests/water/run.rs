@@ -1,7 +1,8 @@
 //! The run on random and hostile sites: tally, last accepted state, and a scratch that is zero afterwards.
 
+use crate::given::Given;
+use crate::lent::room;
 use crate::rng::Rng;
-use crate::step::{room, Given};
 use crate::trials::{single, trials};
 use crate::wild::{self, Wild};
 use crate::{library, model};
@@ -51,8 +52,8 @@ fn what_is_left_in_the_lists() {
 fn each_reason_on_the_way() {
     let card = Card { columns: 2, rows: 1, dx: 1_000_000, dy: 1_000_000, dt: 100, steps: 100 };
     let run = |card: Card, ground: [i32; 2], heights: [i32; 2], middle: i32| {
-        let mut state = vec![heights[0], heights[1], 0, middle, 0, 0, 0, 0, 0];
-        library::run(&mut Rng::new(1), card, &ground, &mut state, &mut vec![1; 9])
+        let mut state = [heights[0], heights[1], 0, middle, 0, 0, 0, 0, 0];
+        library::run(&mut Rng::new(1), card, &ground, &mut state, &mut [1; 9])
     };
     // the dry bank of document 01 pulls harder with each step, until the step limit is broken
     let four = run(card, [0, 1_500_000], [1_000_000, 0], 0);
@@ -60,10 +61,10 @@ fn each_reason_on_the_way() {
     // a cell that is nearly full takes in more than it has room for
     let five = run(card, [0, -30_000_000], [20_000_000, 49_500_000], 0);
     assert_eq!(five.reason, 5);
-    // a cliff: no velocity in range is fast enough
-    let seven = run(Card { dt: 1_000, dx: 20_000_000, ..card }, [50_000_000, -50_000_000], [1_000, 1_000], -1_000_000);
+    // down a cliff the water gets faster with each step; wide cells and a short step keep the step limit out of the way
+    let seven = run(Card { dt: 500, dx: 20_000_000, ..card }, [20_000_000, -20_000_000], [1_000_000, 1_000_000], 0);
     assert_eq!(seven.reason, 7);
-    assert!(four.steps > 0 && five.steps > 0, "stopped on the way: {four:?}, {five:?}");
+    assert!(four.steps > 0 && five.steps > 0 && seven.steps > 0, "on the way: {four:?}, {five:?}, {seven:?}");
     println!("reasons reached: {four:?}, {five:?}, {seven:?}");
 }
 

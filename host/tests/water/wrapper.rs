@@ -88,7 +88,8 @@ fn a_run_in_slices_ends_as_a_whole_run() {
 fn a_look_can_break_a_run_off() {
     let card = Card { columns: 2, rows: 1, dx: 1_000_000, dy: 1_000_000, dt: 100, steps: 10_000 };
     let mut site = Site::still(card, vec![0, 0], &[7, 7]).unwrap();
-    let tally = site.run_in_slices(3, |_, so_far| if so_far.steps < 9 { ControlFlow::Continue(()) } else { ControlFlow::Break(()) });
+    let tally =
+        site.run_in_slices(3, |_, so_far| if so_far.steps < 9 { ControlFlow::Continue(()) } else { ControlFlow::Break(()) });
     assert_eq!(tally, Tally { steps: 9, reason: None, top: 7 });
 }
 

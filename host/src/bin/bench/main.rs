@@ -1,6 +1,7 @@
 //! The benchmark: each call of the library as a ratio to the same work in plain Rust, same input, same process, turn by turn.
 //!
 //! `cargo run --release --bin bench` prints one table. Both must give the same answers and lists, or it stops.
+//! `cargo run --release --bin bench long` runs 10,000 steps on 128×128 and prints what a step costs along the way.
 
 mod clock;
 mod machine;
@@ -9,6 +10,7 @@ mod sites;
 
 use clock::{compare, seen, Medians};
 use sites::{pond, register, Measured};
+use std::time::Instant;
 use water::raw::{Card, Window};
 use water::{calls, Refusal};
 
@@ -136,6 +138,27 @@ fn bench_sheet(site: &Measured, water: &str) {
     row("read a sheet", card.columns, water, 1.0, medians);
 }
 
+/// The longest run there is, in slices of 1,000 steps: a step must not get slower along the way.
+fn long_run() {
+    let Measured { ground, mut state, card } = pond(128, true);
+    let (mut scratch, mut plain_state, mut plain_scratch) = (vec![0; state.len()], state.clone(), vec![0; state.len()]);
+    let mut plain = plain::Plain::new();
+    let card = Card { steps: 1_000, ..card };
+    println!("| steps | ours, µs a step | plain Rust, µs a step | ratio |");
+    println!("|---|---|---|---|");
+    for slice in 1..=10 {
+        let start = Instant::now();
+        let tally = calls::run(card, &ground, &mut state, &mut scratch);
+        let ours = start.elapsed().as_secs_f64() * 1e3;
+        let start = Instant::now();
+        let plain_tally = plain.run(card, &ground, &mut plain_state, &mut plain_scratch);
+        let plain = start.elapsed().as_secs_f64() * 1e3;
+        assert_eq!((tally.steps, tally.reason), (1_000, None));
+        assert!((plain_tally.steps, plain_tally.top) == (tally.steps, tally.top) && plain_state == state, "both run alike");
+        println!("| {} | {ours:.1} | {plain:.1} | {:.2} |", slice * 1_000, ours / plain);
+    }
+}
+
 fn main() {
     let (machine, native) = machine::kind();
     println!("Machine: {machine}.");
@@ -143,6 +166,9 @@ fn main() {
         println!("Emulated: these times and ratios say nothing about the library's speed.");
     }
     println!();
+    if std::env::args().any(|word| word == "long") {
+        return long_run();
+    }
     println!("| work | site | water | ours, µs | plain Rust, µs | ratio |");
     println!("|---|---|---|---|---|---|");
     for (size, steps) in [(8, 500), (128, 20)] {

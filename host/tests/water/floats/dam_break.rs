@@ -90,11 +90,17 @@ fn errors(cells: u32, dt: u32) -> (f64, f64) {
 #[test]
 fn stoker() {
     let exact = Stoker::new();
-    println!("floats, dam break: exact plateau {:.4} m at {:.4} m/s, shock at {:.4} m/s", exact.plateau, exact.speed, exact.shock);
+    println!(
+        "floats, dam break: exact plateau {:.4} m at {:.4} m/s, shock at {:.4} m/s",
+        exact.plateau, exact.speed, exact.shock
+    );
     let mut last = f64::INFINITY;
     for (cells, dt, bound) in [(32, 160, 0.025), (64, 80, 0.017), (128, 40, 0.010)] {
         let (ours, doubles) = errors(cells, dt);
-        println!("floats, dam break: {cells} cells, dt {dt} ms: mean error {:.4} of the dam's height, the doubles {:.4}", ours, doubles);
+        println!(
+            "floats, dam break: {cells} cells, dt {dt} ms: mean error {:.4} of the dam's height, the doubles {:.4}",
+            ours, doubles
+        );
         assert!(ours < bound, "{cells} cells: {ours}");
         assert!(ours < last / 1.3, "finer cells come nearer");
         assert!((ours - doubles).abs() < 1e-5, "the roundings do not show");

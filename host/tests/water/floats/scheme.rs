@@ -47,7 +47,8 @@ fn fluxes(card: &Card, water: &Water) -> (Vec<f64>, Vec<f64>) {
     for j in 0..rows {
         for i in 1..columns {
             let u = water.east(i, j);
-            east[j * (columns + 1) + i] = upwind(u, water.height(i - 1, j), water.height(i, j)) * u * seconds / f64::from(card.dx);
+            east[j * (columns + 1) + i] =
+                upwind(u, water.height(i - 1, j), water.height(i, j)) * u * seconds / f64::from(card.dx);
         }
     }
     for j in 1..rows {

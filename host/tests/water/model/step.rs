@@ -173,13 +173,15 @@ pub fn advance(site: &Site) -> Result<Vec<i32>, u32> {
         return Err(6);
     }
     // walls stay 0
-    let east =
-        Grid::of(columns + 1, rows, |i, j| if i == 0 || i == columns { 0 } else { moving.east_face(i, j).new_velocity() });
+    let east = Grid::of(columns + 1, rows, |i, j| if i == 0 || i == columns { 0 } else { moving.east_face(i, j).new_velocity() });
     let north = Grid::of(columns, rows + 1, |i, j| if j == 0 || j == rows { 0 } else { moving.north_face(i, j).new_velocity() });
     if !east.numbers.iter().chain(&north.numbers).all(|&velocity| fits(&VELOCITIES, velocity)) {
         return Err(7);
     }
-    assert!(moving.new_heights.numbers.iter().all(|&height| fits(&HEIGHTS, height)), "the step limit keeps heights at or above 0");
+    assert!(
+        moving.new_heights.numbers.iter().all(|&height| fits(&HEIGHTS, height)),
+        "the step limit keeps heights at or above 0"
+    );
     Ok([moving.new_heights.words(), east.words(), north.words()].concat())
 }
 

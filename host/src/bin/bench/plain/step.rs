@@ -79,9 +79,8 @@ fn limit_kept(card: &Card, state: &Parts) -> bool {
         let east = &state.east[j * (columns + 1)..][..columns + 1];
         let south = &state.north[j * columns..][..columns];
         let north = &state.north[(j + 1) * columns..][..columns];
-        (0..columns).all(|i| {
-            dt * ((size(east[i]) + size(east[i + 1])) * dy + (size(south[i]) + size(north[i])) * dx) <= 1_000 * dx * dy
-        })
+        (0..columns)
+            .all(|i| dt * ((size(east[i]) + size(east[i + 1])) * dy + (size(south[i]) + size(north[i])) * dx) <= 1_000 * dx * dy)
     })
 }
 
