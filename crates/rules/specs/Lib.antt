@@ -1,5 +1,14 @@
 pub mod Grid
 pub mod Site
 pub mod Step
+pub mod Signs
+pub mod Fair
 pub mod Run
 pub mod Turn
+pub mod Search
+pub mod Sheet
+pub mod Text
+pub mod Play
+pub mod Calls
+pub mod Starred
+pub mod Contracts

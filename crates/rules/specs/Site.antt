@@ -106,3 +106,19 @@ firstOf true true true = 0
 -- the first three checks of a card, a ground and a state
 unfoldable pub check : Card → (ground state : List ℤ) → ℕ
 check c g s = firstOf (cardFits c) (lengthsFit c g s) (valuesFit c (readGround c g) (readState c s))
+
+-- the same where one more list is lent, of `room` words, that is to be as long as the state: the next state, or a run's scratch list
+unfoldable pub checkWith : Card → (ground state : List ℤ) (room : ℕ) → ℕ
+checkWith c g s room = firstOf (cardFits c) (lengthsFit c g s && eqb room (stateLength c)) (valuesFit c (readGround c g) (readState c s))
+
+-- ---- Numbers one after the other, and what a call leaves
+
+-- the first number that refuses, of two looked for in this order
+unfoldable pub firstRefusal : ℕ → ℕ → ℕ
+firstRefusal zero n = n
+firstRefusal (suc k) n = suc k
+
+-- what a call leaves where its number is 0, and where it is refused
+unfoldable pub ifDone {ℓ} : {A : Type ℓ} → (number : ℕ) (done refused : A) → A
+ifDone zero done refused = done
+ifDone (suc k) done refused = refused

@@ -3,7 +3,6 @@ use mathlib.Core.Bool.{Bool, true, false, cond}
 use Prim.Native.Nat.{_+_}
 use lib.IntN.{ℤ}
 use lib.Signed.{leZ}
-use mir.Val.{toZ, ofZ}
 use mir.Syntax.{w32}
 use mir.Facts.{toZ-ofZ}
 use borrow.Author.Needs.{needs}
@@ -11,8 +10,6 @@ use Rattle.rules.specs.declared.Tally.{Tally}
 use Rattle.rules.specs.Run.{accepted}
 use Rattle.rules.proofs.Tally.accept.Statement.{statement}
 use Rattle.rules.proofs.Tally.accept.Tie as tie
-use Rattle.rules.proofs.Tally.accept.Reads as reads
-use Rattle.rules.proofs.Tally.accept.Lts as lts
 
 -- the tally with a new top, whichever way the test went
 module _ (t : Tally) (h : ℤ) where

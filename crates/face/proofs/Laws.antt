@@ -1,0 +1,57 @@
+-- What the definitions are as the code computes them.
+use Prim.Native.Nat.{ℕ, zero, suc, _*_, _/_}
+use mathlib.Core.Path.{_≡_, refl, _∙_}
+use mathlib.Core.Bool.{true, false, cond}
+use native.Mathlib.Nat.{zero-mul, mul-zero, zero-div}
+use native.Mathlib.Omega.{arith}
+use borrow.Author.Tests.{ltb-true, leb-true, leb-false, le-leb, lt-leb}
+use lib.Dec.{T, leb·suc-zero}
+use lib.IntN.{ℤ, pos, negsuc, negℤ, natAbs, _*ℤ_}
+use lib.Signed.{leZ, ltZ, nonNeg, quotZ}
+use Rattle.rules.specs.Site.{speedFits}
+use Rattle.rules.specs.Step.{transfer, positive}
+use Rattle.laws.specs.Numbers.{neg-mul, neg-quot}
+
+-- the size by floor and the sign apart are one quotient towards zero
+ahead : (h : ℤ) (n dt k : ℕ) → T (leZ (pos 0) h) → quotZ (h *ℤ pos n *ℤ pos dt) (pos k) ≡ pos (natAbs h * n * dt / k)
+ahead (pos a) n dt k p = refl
+ahead (negsuc a) n dt k p = absurd p
+
+back : (h : ℤ) (n dt k : ℕ) → T (leZ (pos 0) h) → quotZ (h *ℤ negsuc n *ℤ pos dt) (pos k) ≡ negℤ (pos (natAbs h * suc n * dt / k))
+back (pos a) n dt k p = rw (neg-mul, neg-quot)
+back (negsuc a) n dt k p = absurd p
+
+pub transfer-quot : (hK hL u : ℤ) (dt d : ℕ) → T (leZ (pos 0) hK) → T (leZ (pos 0) hL)
+    → quotZ (cond (ltZ u (pos 0)) hL hK *ℤ u *ℤ pos dt) (pos (1000 * d)) ≡ transfer dt d hK hL u
+unfolding transfer
+transfer-quot hK hL (pos zero) dt d p q = ahead hK 0 dt (1000 * d) p ∙ simp (mul-zero, zero-mul, zero-div)
+transfer-quot hK hL (pos (suc n)) dt d p q = rw leb·suc-zero (ahead hK (suc n) dt (1000 * d) p)
+transfer-quot hK hL (negsuc n) dt d p q = back hL n dt (1000 * d) q
+
+pub positive-yes : (x : ℤ) → ltZ x (pos 0) ≡ true → positive x ≡ pos 0
+unfolding positive
+positive-yes (pos n) e = let h = ltb-true n 0 e in absurd (omega arith)
+positive-yes (negsuc n) e = refl
+
+pub positive-no : (x : ℤ) → ltZ x (pos 0) ≡ false → positive x ≡ x
+unfolding positive
+positive-no (pos n) e = refl
+positive-no (negsuc n) e = let z : _≡_ {A = ℕ} 0 1 = cc in absurd (omega arith)
+
+-- a number below 0, turned, and one not below 0
+pub turned-up : (x : ℤ) → ltZ x (pos 0) ≡ true → T (nonNeg (negℤ x))
+turned-up (pos n) e = let h = ltb-true n 0 e in absurd (omega arith)
+turned-up (negsuc n) e = tt
+
+pub not-below : (x : ℤ) → ltZ x (pos 0) ≡ false → T (nonNeg x)
+not-below (pos n) e = tt
+not-below (negsuc n) e = let z : _≡_ {A = ℕ} 0 1 = cc in absurd (omega arith)
+
+-- a range is a bound on the size
+pub fits-yes : (v : ℤ) → leZ (negsuc 19999999) v ≡ true → leZ v (pos 20000000) ≡ speedFits v
+fits-yes (pos n) e = refl
+fits-yes (negsuc n) e = let h = leb-true n 19999999 e in rw (le-leb (suc n) 20000000 (omega arith))
+
+pub fits-no : (v : ℤ) → leZ (negsuc 19999999) v ≡ false → false ≡ speedFits v
+fits-no (pos n) e = let z : _≡_ {A = ℕ} 0 1 = cc in absurd (omega arith)
+fits-no (negsuc n) e = let h = leb-false n 19999999 e in rw (lt-leb (suc n) 20000000 (omega arith))

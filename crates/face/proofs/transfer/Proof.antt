@@ -1,0 +1,82 @@
+use mathlib.Core.Path.{_≡_, _∙_}
+use mathlib.Core.Bool.{cond}
+use native.Mathlib.Omega.{arith}
+use lib.IntN.{pos}
+use lib.Signed.{ltZ}
+use mir.Facts.{toZ-ofZ}
+use mir.Syntax.{w64}
+use Rattle.laws.specs.Exact.{Node, fits, value, divides, int, nat, lit, result, mul, quot, cast}
+use Rattle.face.proofs.Bounds.{height-within, either-within}
+use Rattle.face.proofs.Laws.{transfer-quot}
+use Rattle.face.proofs.transfer.Statement.{statement}
+use Rattle.face.proofs.transfer.Tie as tie
+
+came : (c : tie.After-upwind) → let i = c .before .args in c .upwind .result ≡ cond (ltZ (i .u) (pos 0)) (i .hl) (i .hk)
+came c = c .upwind .ensures ∙ rw (toZ-ofZ (c .before .fits .u), toZ-ofZ (c .before .fits .hl), toZ-ofZ (c .before .fits .hk))
+
+-- the operations, in the code's order
+abbrev h : tie.After-upwind → Node w64
+h c = cast (result (came c) (either-within (ltZ (c .before .args .u) (pos 0)) (height-within (c .before .pre .heightL)) (height-within (c .before .pre .heightK))) tt) tt
+
+abbrev u : tie.After-upwind → Node w64
+u c = cast (int (c .before .pre .speed) tt) tt
+
+abbrev hu : tie.After-upwind → Node w64
+hu c = mul (h c) (u c) tt
+
+abbrev dt : tie.After-upwind → Node w64
+dt c = nat (c .before .pre .time .high) tt
+
+abbrev top : tie.After-upwind → Node w64
+top c = mul (hu c) (dt c) tt
+
+abbrev d : tie.After-upwind → Node w64
+d c = nat (c .before .pre .side .high) tt
+
+abbrev below : tie.After-upwind → Node w64
+below c = mul (lit 1000 tt) (d c) tt
+
+upwind-requires : tie.Need-upwind-requires
+upwind-requires c κs = tt
+
+cast-result : tie.Need-cast-result
+cast-result c = fits (h c)
+
+cast-result-2 : tie.Need-cast-result-2
+cast-result-2 c = fits (u c)
+
+mul-result : tie.Need-mul-result
+mul-result c = fits (hu c)
+
+cast-result-3 : tie.Need-cast-result-3
+cast-result-3 c = fits (dt c)
+
+mul-result-2 : tie.Need-mul-result-2
+mul-result-2 c = fits (top c)
+
+cast-result-4 : tie.Need-cast-result-4
+cast-result-4 c = fits (d c)
+
+mul-result-3 : tie.Need-mul-result-3
+mul-result-3 c = fits (below c)
+
+div-result : tie.Need-div-result
+div-result c = divides (top c) (below c) (omega (arith, c .before .pre .side .low))
+
+returns : tie.Need-returns
+returns c = value (quot (top c) (below c)) ∙ transfer-quot _ _ _ _ _ (c .before .pre .heightK .low) (c .before .pre .heightL .low)
+
+pub transfer-spec : {M : Type 1} → statement M
+transfer-spec =
+    tie.close
+    (tie.spec
+    upwind-requires
+    cast-result
+    cast-result-2
+    mul-result
+    cast-result-3
+    mul-result-2
+    cast-result-4
+    mul-result-3
+    div-result
+    returns)

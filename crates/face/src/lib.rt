@@ -1,0 +1,178 @@
+// The arithmetic of one face and of one cell: what each function returns is a definition of `rules`. Three divisions in all: one for a
+// transfer, two for a new velocity.
+use rules::Face;
+ghost use mathlib.Core.Path.{_≡_};
+ghost use mathlib.Core.Bool.{cond};
+ghost use Prim.Native.Nat.{_+_, _*_};
+ghost use lib.IntN.{pos, natAbs, _+ℤ_, _-ℤ_};
+ghost use lib.Signed.{ltZ};
+ghost use lib.Dec.{leb};
+ghost use Rattle.rules.specs.Site.{speedFits};
+ghost use Rattle.rules.specs.Step as step;
+ghost use Rattle.face.specs.Ranges.{Speed, InTransfer, InLimit, InHeight, FaceFits, InVelocity, Flow};
+
+// ---- Transfer
+
+// The height of the cell that the water leaves: L's where u < 0, K's else. Where u is 0 nothing leaves, whichever it is.
+fn upwind(hk: i32, hl: i32, u: i32) -> i32
+    ensures { λ r. ⌜ r ≡ cond (ltZ u (pos 0)) hl hk ⌝ }
+{
+    if u < 0 { hl } else { hk }
+}
+
+// What crosses the face between K and L in one step.
+pub fn transfer(hk: i32, hl: i32, u: i32, dt: u32, d: u32) -> i64
+    requires { ⌜ InTransfer hk hl u dt d ⌝ }
+    ensures { λ r. ⌜ r ≡ step.transfer dt d hk hl u ⌝ }
+{
+    let h = upwind(hk, hl, u);
+    (h as i64) * (u as i64) * (dt as i64) / (1000 * (d as i64))
+}
+
+// ---- Step limit
+
+fn size(v: i32) -> u64
+    requires { ⌜ Speed v ⌝ }
+    ensures { λ r. ⌜ r ≡ natAbs v ⌝ }
+{
+    if v < 0 { (0 - v) as u64 } else { v as u64 }
+}
+
+// Whether a cell with these face velocities keeps the step limit.
+pub fn keeps_limit(west: i32, east: i32, south: i32, north: i32, dt: u32, dx: u32, dy: u32) -> bool
+    requires { ⌜ InLimit west east south north dt dx dy ⌝ }
+    ensures { λ r. ⌜ r ≡ leb (dt * ((natAbs west + natAbs east) * dy + (natAbs south + natAbs north) * dx)) (1000 * (dx * dy)) ⌝ }
+{
+    let x = dx as u64;
+    let y = dy as u64;
+    let speed = (size(west) + size(east)) * y + (size(south) + size(north)) * x;
+    (dt as u64) * speed <= 1000 * (x * y)
+}
+
+// ---- New height
+
+// The old height, less what leaves and plus what enters over the four faces.
+pub fn new_height(h: i32, west: i32, east: i32, south: i32, north: i32) -> i32
+    requires { ⌜ InHeight h west east south north ⌝ }
+    ensures { λ r. ⌜ r ≡ h +ℤ west -ℤ east +ℤ south -ℤ north ⌝ }
+{
+    h + west - east + south - north
+}
+
+// ---- Carried momentum
+
+fn out_ahead(f: Face) -> i32
+    requires { ⌜ FaceFits f ⌝ }
+    ensures { λ r. ⌜ r ≡ step.outAhead f ⌝ }
+{
+    let own = f.own;
+    let ahead = f.ahead;
+    own + ahead
+}
+
+fn out_behind(f: Face) -> i32
+    requires { ⌜ FaceFits f ⌝ }
+    ensures { λ r. ⌜ r ≡ step.outBehind f ⌝ }
+{
+    let own = f.own;
+    let behind = f.behind;
+    0 - (own + behind)
+}
+
+fn out_above(f: Face) -> i32
+    requires { ⌜ FaceFits f ⌝ }
+    ensures { λ r. ⌜ r ≡ step.outAbove f ⌝ }
+{
+    let k = f.aboveK;
+    let l = f.aboveL;
+    k + l
+}
+
+fn out_below(f: Face) -> i32
+    requires { ⌜ FaceFits f ⌝ }
+    ensures { λ r. ⌜ r ≡ step.outBelow f ⌝ }
+{
+    let k = f.belowK;
+    let l = f.belowL;
+    0 - (k + l)
+}
+
+fn positive(flow: i32) -> i32
+    ensures { λ r. ⌜ r ≡ step.positive flow ⌝ }
+{
+    if flow < 0 { 0 } else { flow }
+}
+
+// Own share: what stays in the face's cell.
+fn share(f: Face) -> i32
+    requires { ⌜ FaceFits f ⌝ }
+    ensures { λ r. ⌜ r ≡ step.ownShare f ⌝ }
+{
+    let k = f.oldK;
+    let l = f.oldL;
+    let along = positive(out_ahead(f)) + positive(out_behind(f));
+    let across = positive(out_above(f)) + positive(out_below(f));
+    k + l - (along + across)
+}
+
+pub fn own_share(f: Face) -> i64
+    requires { ⌜ FaceFits f ⌝ }
+    ensures { λ r. ⌜ r ≡ step.ownShare f ⌝ }
+{
+    share(f) as i64
+}
+
+// Flow in, times the velocity of the parallel face that it comes from.
+fn brought(out: i32, v: i32) -> i64
+    requires { ⌜ Flow out v ⌝ }
+    ensures { λ r. ⌜ r ≡ step.brought out v ⌝ }
+{
+    (positive(0 - out) as i64) * (v as i64)
+}
+
+fn carried(f: Face) -> i64
+    requires { ⌜ FaceFits f ⌝ }
+    ensures { λ r. ⌜ r ≡ step.carried f ⌝ }
+{
+    let u = f.u;
+    let kept = (share(f) as i64) * (u as i64);
+    let along = brought(out_ahead(f), f.uAhead) + brought(out_behind(f), f.uBehind);
+    let across = brought(out_above(f), f.uAbove) + brought(out_below(f), f.uBelow);
+    kept + (along + across)
+}
+
+// ---- New velocity
+
+fn slope(f: Face, dt: u32, d: u32) -> i64
+    requires { ⌜ InVelocity f dt d ⌝ }
+    ensures { λ r. ⌜ r ≡ step.slope dt d f ⌝ }
+{
+    let hk = f.newK;
+    let zk = f.groundK;
+    let hl = f.newL;
+    let zl = f.groundL;
+    let rise = (hl + zl) - (hk + zk);
+    9806650 * (dt as i64) * (rise as i64) / (1000 * (d as i64))
+}
+
+// The new velocity of an inner face.
+pub fn new_velocity(f: Face, dt: u32, d: u32) -> i64
+    requires { ⌜ InVelocity f dt d ⌝ }
+    ensures { λ r. ⌜ r ≡ step.newVelocity dt d f ⌝ }
+{
+    let k = f.newK;
+    let l = f.newL;
+    let h = k + l;
+    if h == 0 {
+        0
+    } else {
+        carried(f) / (h as i64) - slope(f, dt, d)
+    }
+}
+
+// Whether a new velocity lies in its range.
+pub fn speed_fits(v: i64) -> bool
+    ensures { λ r. ⌜ r ≡ speedFits v ⌝ }
+{
+    -20000000 <= v && v <= 20000000
+}

@@ -1,0 +1,101 @@
+-- A site that passes the first three checks, and whose step is accepted, passes them again.
+use Prim.Native.Nat.{suc, _<_}
+use mathlib.Core.Path.{_≡_, ap₂, _∙_}
+use mathlib.Core.Bool.{true, _&&_}
+use mathlib.Core.List.{List}
+use native.Mathlib.Nat.{le-refl}
+use native.Mathlib.Omega.{arith}
+use lib.IntN.{ℤ, pos}
+use lib.Signed.{leZ}
+use lib.ListN.{length}
+use lib.Dec.{T, eqb, eqb-refl}
+use Rattle.rules.specs.declared.Card.{Card}
+use Rattle.rules.specs.Grid.{Field, all}
+use Rattle.rules.specs.Site.{Water, cells, stateLength, readGround, readState, writeState, isZero, groundsFit, depthsFit, facesFit, wallsStill, valuesFit, lengthsFit, check}
+use Rattle.rules.specs.Step.{newHeight, newEast, newNorth, next, limitKept, heightsFit, sharesFit, speedsFit, number, stepNumber, nextState}
+use Rattle.laws.specs.Tests.{true-of, to-T, and-both, and-left, four-of, of-four}
+use Rattle.laws.specs.Grids.{all-intro, allAt-at, allAt-intro, all-same, allAt-same}
+use Rattle.laws.specs.States.{Alike, height-back, east-back, north-back, length-state}
+use Rattle.laws.specs.Checks.{apart, together, accepted, sides}
+use Rattle.laws.specs.Facts.{length-facts}
+use Rattle.laws.specs.Limit.{not-below}
+use Rattle.laws.specs.Walls.{east-wall, north-wall}
+
+-- ---- the values of the next state
+
+module _ (c : Card) (w v : Water) (𝓐 : Alike c w v) where
+  depths-alike : depthsFit c w ≡ depthsFit c v
+  unfolding depthsFit
+  depths-alike = allAt-same (c .columns) (c .rows) _ _ (λ i j hi hj. rw (𝓐 .height i j hi hj))
+
+  faces-alike : facesFit c w ≡ facesFit c v
+  unfolding facesFit
+  faces-alike =
+      ap₂ _&&_
+      (allAt-same (suc (c .columns)) (c .rows) _ _ (λ i j hi hj. rw (𝓐 .east i j (omega arith) hj)))
+      (allAt-same (c .columns) (suc (c .rows)) _ _ (λ i j hi hj. rw (𝓐 .north i j hi (omega arith))))
+
+  walls-alike : wallsStill c w ≡ wallsStill c v
+  unfolding wallsStill
+  walls-alike =
+      ap₂ _&&_
+      (all-same (c .rows) _ _ (λ j hj. rw (𝓐 .east 0 j (omega arith) hj, 𝓐 .east (c .columns) j (omega arith) hj)))
+      (all-same (c .columns) _ _ (λ i hi. rw (𝓐 .north i 0 hi (omega arith), 𝓐 .north i (c .rows) hi (omega arith))))
+
+  values-alike : (g : Field) → valuesFit c g w ≡ valuesFit c g v
+  unfolding valuesFit
+  values-alike g = rw (depths-alike, faces-alike, walls-alike)
+
+module _ (c : Card) (g : Field) (w : Water) where
+  walls-next : T (wallsStill c (next c g w))
+  unfolding wallsStill next newEast newNorth
+  walls-next =
+      and-both (all (c .rows) (λ j. isZero (newEast c g w 0 j) && isZero (newEast c g w (c .columns) j))) (all (c .columns) (λ i. isZero (newNorth c g w i 0) && isZero (newNorth c g w i (c .rows))))
+      (all-intro (c .rows) _ (λ j hj. rw (east-wall c g w (c .columns) j (le-refl (c .columns))) tt))
+      (all-intro (c .columns) _ (λ i hi. rw (north-wall c g w i (c .rows) (le-refl (c .rows))) tt))
+
+  depths-next : 0 < c .dx → 0 < c .dy → T (depthsFit c w) → T (limitKept c w) → T (heightsFit c w) → T (depthsFit c (next c g w))
+  unfolding depthsFit next limitKept heightsFit
+  depths-next hx hy d l h =
+      allAt-intro (c .columns) (c .rows) _ (λ i j hi hj.
+      and-both (leZ (pos 0) (newHeight c w i j)) (leZ (newHeight c w i j) (pos 50000000))
+      (not-below c w i j hx hy
+      (and-left (leZ (pos 0) (w .height i j)) (leZ (w .height i j) (pos 50000000)) (allAt-at (c .columns) (c .rows) _ d i j hi hj))
+      (allAt-at (c .columns) (c .rows) _ l i j hi hj))
+      (allAt-at (c .columns) (c .rows) _ h i j hi hj))
+
+  next-values : 0 < c .dx → 0 < c .dy → T (valuesFit c g w) → number c g w ≡ 0 → T (valuesFit c g (next c g w))
+  unfolding valuesFit facesFit next number speedsFit
+  next-values hx hy t e =
+      let a = accepted (limitKept c w) (heightsFit c w) (sharesFit c g w) (speedsFit c g w) e in
+      let f = four-of (groundsFit c g) (depthsFit c w) (facesFit c w) (wallsStill c w) t in
+      of-four (groundsFit c g) (depthsFit c (next c g w)) (facesFit c (next c g w)) (wallsStill c (next c g w)) (record {
+        one = f .one;
+        two = depths-next hx hy (f .two) (a .limit) (a .heights);
+        three = a .speeds;
+        four = walls-next;
+      })
+
+-- ---- a state that is written has the length that refusal 2 asks for
+
+pub written-fits : (c : Card) (g : List ℤ) (w : Water) → length g ≡ cells c → lengthsFit c g (writeState c w) ≡ true
+unfolding lengthsFit
+written-fits c g w e =
+    rw (e, length-state c w)
+    (rw (true-of (eqb (cells c) (cells c)) (eqb-refl (cells c))) (true-of (eqb (stateLength c) (stateLength c)) (eqb-refl (stateLength c))))
+
+-- ---- the checks
+
+pub keeps : (c : Card) (g s : List ℤ) → check c g s ≡ 0 → stepNumber c g s ≡ 0 → check c g (nextState c g s) ≡ 0
+unfolding check stepNumber nextState
+keeps c g s e k =
+    let p = apart _ _ _ e in
+    let n = next c (readGround c g) (readState c s) in
+    let d = sides c (to-T (p .card)) in
+    together (record {
+      card = p .card;
+      lengths = written-fits c g n (length-facts c g s (p .lengths) .ground);
+      values =
+          values-alike c (readState c (writeState c n)) n (record { height = height-back c n; east = east-back c n; north = north-back c n }) (readGround c g)
+          ∙ true-of _ (next-values c (readGround c g) (readState c s) (d .0) (d .1) (to-T (p .values)) k);
+    })

@@ -1,0 +1,74 @@
+-- Laws of tests that the kit lacks: a test as a truth value and as a fact, and tests joined by `_&&_`.
+use mathlib.Core.Path.{_≡_, refl, sym, ap₂, _∙_, subst}
+use mathlib.Core.Bool.{Bool, true, false, cond, not, _&&_}
+use lib.Dec.{T}
+
+pub both-ways : (a b : Bool) → (T a → T b) → (T b → T a) → a ≡ b
+both-ways true true f g = refl
+both-ways true false f g = absurd (f tt)
+both-ways false true f g = absurd (g tt)
+both-ways false false f g = refl
+
+pub true-of : (b : Bool) → T b → b ≡ true
+true-of true t = refl
+true-of false t = absurd t
+
+pub false-of : (b : Bool) → T (not b) → b ≡ false
+false-of true t = absurd t
+false-of false t = refl
+
+pub cond-cong : {A : Type 0} (b : Bool) (x x′ y : A) → (T b → x ≡ x′) → cond b x y ≡ cond b x′ y
+cond-cong true x x′ y h = h tt
+cond-cong false x x′ y h = refl
+
+pub and-comm : (a b : Bool) → (a && b) ≡ (b && a)
+and-comm true true = refl
+and-comm true false = refl
+and-comm false true = refl
+and-comm false false = refl
+
+pub and-cross : {a b a′ b′ : Bool} → a′ ≡ b → b′ ≡ a → (a′ && b′) ≡ (a && b)
+and-cross {a} {b} p q = ap₂ _&&_ p q ∙ and-comm b a
+
+pub and-both : (a b : Bool) → T a → T b → T (a && b)
+and-both true b s t = t
+and-both false b s t = s
+
+pub and-left : (a b : Bool) → T (a && b) → T a
+and-left true b t = tt
+and-left false b t = t
+
+pub and-right : (a b : Bool) → T (a && b) → T b
+and-right true b t = t
+and-right false b t = absurd t
+
+-- three and four tests, joined as `_&&_` joins them
+pub record Three (a b c : Bool) : Type 0 where
+  pub one : T a
+  pub two : T b
+  pub three : T c
+
+pub three-of : (a b c : Bool) → T (a && b && c) → Three a b c
+three-of true true true t = record { one = tt; two = tt; three = tt }
+three-of true true false t = absurd t
+three-of true false c t = absurd t
+three-of false b c t = absurd t
+
+pub record Four (a b c d : Bool) : Type 0 where
+  pub one : T a
+  pub two : T b
+  pub three : T c
+  pub four : T d
+
+pub four-of : (a b c d : Bool) → T (a && b && c && d) → Four a b c d
+four-of true true true true t = record { one = tt; two = tt; three = tt; four = tt }
+four-of true true true false t = absurd t
+four-of true true false d t = absurd t
+four-of true false c d t = absurd t
+four-of false b c d t = absurd t
+
+pub of-four : (a b c d : Bool) → Four a b c d → T (a && b && c && d)
+of-four a b c d f = and-both (a && b && c) d (and-both (a && b) c (and-both a b (f .one) (f .two)) (f .three)) (f .four)
+
+pub to-T : {b : Bool} → b ≡ true → T b
+to-T e = subst T (sym e) tt

@@ -1,0 +1,1 @@
+// Mathematics that the kit lacks: no code, only the laws in specs/.

@@ -1,0 +1,17 @@
+pub mod Promises
+pub mod Demand3
+pub mod TakenTwice
+pub mod NeverInTheMiddle
+pub mod Slices
+pub mod TheCall
+pub mod OneOutcome
+pub mod Refused
+pub mod Turning
+pub mod EastWest
+pub mod NorthSouth
+pub mod SwapAxes
+pub mod Mirror
+pub mod MirrorNumbers
+pub mod Swap
+pub mod SwapNumbers
+pub mod StepsWanted

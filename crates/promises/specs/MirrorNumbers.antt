@@ -1,0 +1,59 @@
+-- Two waters of which one is the other turned east for west: their checks and their steps have the same numbers.
+use Prim.Native.Nat.{suc, _-_}
+use mathlib.Core.Path.{_≡_, ap₂}
+use mathlib.Core.Bool.{_&&_}
+use native.Mathlib.Omega.{arith}
+use Rattle.rules.specs.declared.Card.{Card}
+use Rattle.rules.specs.Grid.{Field}
+use Rattle.rules.specs.Site.{Water, isZero, groundsFit, depthsFit, facesFit, wallsStill, valuesFit}
+use Rattle.rules.specs.Step.{withinLimit, eastFace, northFace, newEast, limitKept, heightsFit, sharesFit, speedsFit, number}
+use Rattle.rules.specs.Fair.{share-along, share-across}
+use Rattle.laws.specs.Tests.{and-comm}
+use Rattle.laws.specs.Numbers.{abs-neg}
+use Rattle.laws.specs.Grids.{allAt-mirror, all-mirror, all-same}
+use Rattle.promises.specs.Mirror as M
+use Rattle.promises.specs.Mirror.{Mirror, MirrorField}
+
+module _ (c : Card) (w w′ : Water) (𝓜 : Mirror c w w′) (g g′ : Field) (𝓖 : MirrorField (c .columns) (c .rows) g g′) where
+  limit-same : limitKept c w′ ≡ limitKept c w
+  unfolding limitKept
+  limit-same = allAt-mirror (c .columns) (c .rows) (withinLimit c w) (withinLimit c w′) (M.limits c w w′ 𝓜)
+
+  heights-same : heightsFit c w′ ≡ heightsFit c w
+  unfolding heightsFit
+  heights-same = allAt-mirror (c .columns) (c .rows) _ _ (λ i i′ j e h. rw (M.new-heights c w w′ 𝓜 i i′ j e h))
+
+  shares-same : sharesFit c g′ w′ ≡ sharesFit c g w
+  unfolding sharesFit
+  shares-same =
+      ap₂ _&&_
+      (allAt-mirror (c .columns - 1) (c .rows) _ _ (λ i i′ j e h. rw (M.east-faces c w w′ 𝓜 g g′ 𝓖 i i′ j (omega arith) h, share-along (eastFace c g w i′ j))))
+      (allAt-mirror (c .columns) (c .rows - 1) _ _ (λ i i′ j e h. rw (M.north-faces c w w′ 𝓜 g g′ 𝓖 i i′ j e (omega arith), share-across (northFace c g w i′ j))))
+
+  speeds-same : speedsFit c g′ w′ ≡ speedsFit c g w
+  unfolding speedsFit
+  speeds-same =
+      ap₂ _&&_
+      (allAt-mirror (suc (c .columns)) (c .rows) _ _ (λ i i′ j e h. rw (M.new-easts c w w′ 𝓜 g g′ 𝓖 i i′ j (omega arith) h, abs-neg (newEast c g w i′ j))))
+      (allAt-mirror (c .columns) (suc (c .rows)) _ _ (λ i i′ j e h. rw (M.new-norths c w w′ 𝓜 g g′ 𝓖 i i′ j e (omega arith))))
+
+  pub numbers : number c g′ w′ ≡ number c g w
+  unfolding number
+  numbers = rw (limit-same, heights-same, shares-same, speeds-same)
+
+  pub values-same : valuesFit c g′ w′ ≡ valuesFit c g w
+  unfolding valuesFit groundsFit depthsFit facesFit wallsStill
+  values-same =
+      ap₂ _&&_
+      (ap₂ _&&_
+      (ap₂ _&&_
+      (allAt-mirror (c .columns) (c .rows) _ _ (λ i i′ j e h. rw (𝓖 .same i i′ j e h)))
+      (allAt-mirror (c .columns) (c .rows) _ _ (λ i i′ j e h. rw (𝓜 .height i i′ j e h))))
+      (ap₂ _&&_
+      (allAt-mirror (suc (c .columns)) (c .rows) _ _ (λ i i′ j e h. rw (𝓜 .east i i′ j (omega arith) h, abs-neg (w .east i′ j))))
+      (allAt-mirror (c .columns) (suc (c .rows)) _ _ (λ i i′ j e h. rw (𝓜 .north i i′ j e (omega arith))))))
+      (ap₂ _&&_
+      (all-same (c .rows) _ _ (λ j h.
+      rw (𝓜 .east 0 (c .columns) j (omega arith) h, 𝓜 .east (c .columns) 0 j (omega arith) h)
+      (rw (abs-neg (w .east (c .columns) j), abs-neg (w .east 0 j)) (and-comm (isZero (w .east (c .columns) j)) (isZero (w .east 0 j))))))
+      (all-mirror (c .columns) _ _ (λ i i′ e. rw (𝓜 .north i i′ 0 e (omega arith), 𝓜 .north i i′ (c .rows) e (omega arith)))))

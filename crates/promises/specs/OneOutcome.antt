@@ -1,0 +1,46 @@
+-- Of each public call, any two outcomes which its contract allows are equal, whatever was given: refused calls too.
+use Prim.Native.Nat.{ℕ}
+use mathlib.Core.Path.{_≡_}
+use mathlib.Core.List.{List}
+use lib.IntN.{ℤ}
+use Rattle.rules.specs.declared.Card.{Card}
+use Rattle.rules.specs.declared.Tally.{Tally}
+use Rattle.rules.specs.declared.Window.{Window}
+use Rattle.rules.specs.declared.Found.{Found}
+use Rattle.rules.specs.declared.Heard.{Heard}
+use Rattle.rules.specs.declared.Wrote.{Wrote}
+use Rattle.rules.specs.Contracts.{StepContract, RunContract, SearchContract, ReadContract, WriteContract, TextContract}
+
+-- ---- step
+
+pub one-step : {c : Card} {g s n : List ℤ} {k k′ : ℕ} {v v′ : List ℤ} → StepContract c g s n k v → StepContract c g s n k′ v′ → (k ≡ k′) × (v ≡ v′)
+one-step p q = (cc, cc)
+
+-- ---- run
+
+pub one-run : {c : Card} {g s x : List ℤ} {t t′ : Tally} {v v′ y y′ : List ℤ}
+    → RunContract c g s x t v y → RunContract c g s x t′ v′ y′ → (t ≡ t′) × (v ≡ v′) × (y ≡ y′)
+one-run p q = (cc, cc, cc)
+
+-- ---- search, over two lists of numbers and over a row of chambers
+
+pub one-search : {c : Card} {g s xs ys : List ℤ} {w : Window} {d : ℤ} {f : List ℕ} {a a′ : Found} {v v′ : List ℕ}
+    → SearchContract c g s xs ys w d f a v → SearchContract c g s xs ys w d f a′ v′ → (a ≡ a′) × (v ≡ v′)
+one-search p q = (cc, cc)
+
+-- ---- sheet reader
+
+pub one-reading : {l : List ℕ} {g s : List ℤ} {h h′ : Heard} {v v′ y y′ : List ℤ}
+    → ReadContract l g s h v y → ReadContract l g s h′ v′ y′ → (h ≡ h′) × (v ≡ v′) × (y ≡ y′)
+one-reading p q = (cc, cc, cc)
+
+-- ---- sheet writer
+
+pub one-writing : {c : Card} {g s : List ℤ} {b : List ℕ} {a a′ : Wrote} {v v′ : List ℕ}
+    → WriteContract c g s b a v → WriteContract c g s b a′ v′ → (a ≡ a′) × (v ≡ v′)
+one-writing p q = (cc, cc)
+
+-- ---- depth text
+
+pub one-text : {h : ℤ} {x : List ℕ} {n n′ : ℕ} {y y′ : List ℕ} → TextContract h x n y → TextContract h x n′ y′ → (n ≡ n′) × (y ≡ y′)
+one-text p q = (cc, cc)

@@ -1,0 +1,74 @@
+-- What follows from the rules. Read this file first: it states each promise, and takes the proof from the file that it names in `use`.
+-- Nothing is assumed but what a promise says before its last arrow.
+use Prim.Native.Nat.{ℕ, _+_}
+use mathlib.Core.Path.{_≡_}
+use mathlib.Core.List.{List}
+use lib.IntN.{ℤ}
+use lib.ListN.{length}
+use Rattle.rules.specs.declared.Card.{Card}
+use Rattle.rules.specs.Site.{check}
+use Rattle.rules.specs.Step.{stepNumber, nextState}
+use Rattle.rules.specs.Run.{run}
+use Rattle.rules.specs.Calls.{runOutcome}
+use Rattle.rules.specs.Turn.{Turn, Obeys, eastWest, northSouth, swapAxes}
+use Rattle.laws.specs.Keeps.{keeps}
+use Rattle.promises.specs.Turning.{Lawful, obeys}
+use Rattle.promises.specs.Demand3.{TurnsTheRun, turns-the-run}
+use Rattle.promises.specs.TakenTwice.{GivesBack}
+use Rattle.promises.specs.EastWest as EastWest
+use Rattle.promises.specs.NorthSouth as NorthSouth
+use Rattle.promises.specs.SwapAxes as SwapAxes
+use Rattle.promises.specs.TheCall.{call-runs}
+use Rattle.promises.specs.NeverInTheMiddle.{Ends, ends}
+use Rattle.promises.specs.StepsWanted.{wanting}
+use Rattle.promises.specs.Slices.{joined, in-slices}
+-- of each public call: any two outcomes that its contract allows are equal, refused calls too
+pub use Rattle.promises.specs.OneOutcome.{one-step, one-run, one-search, one-reading, one-writing, one-text}
+-- and a refused call leaves every list as it was lent
+pub use Rattle.promises.specs.Refused.{step-refused, run-refused, scratch-zero, search-refused, no-count, read-refused, write-refused}
+
+-- ---- Demand 3
+
+-- the three turns of document 01
+pub data OfDocument01 : Turn → Type 0 where
+  eastForWest : OfDocument01 eastWest
+  northForSouth : OfDocument01 northSouth
+  swappedAxes : OfDocument01 swapAxes
+
+lawful : {t : Turn} → OfDocument01 t → Lawful t
+lawful eastForWest = EastWest.lawful
+lawful northForSouth = NorthSouth.lawful
+lawful swappedAxes = SwapAxes.lawful
+
+-- the turned site's run is the run turned
+pub demand3 : {t : Turn} → OfDocument01 t → Obeys t
+demand3 {t} d = obeys t (lawful d)
+
+-- the same, field by field: steps done, reason, top, end state
+pub demand3-by-field : {t : Turn} → OfDocument01 t → (c : Card) (g s : List ℤ) → check c g s ≡ 0 → TurnsTheRun t c g s
+demand3-by-field {t} d = turns-the-run t (lawful d)
+
+-- a turn taken twice gives the site back
+pub taken-twice : {t : Turn} → OfDocument01 t → GivesBack t
+taken-twice eastForWest = EastWest.gives-back
+taken-twice northForSouth = NorthSouth.gives-back
+taken-twice swappedAxes = SwapAxes.gives-back
+
+-- ---- The run, and so the public call
+
+-- lent a scratch list as long as its state, the call's outcome is the run
+pub the-call-runs : (c : Card) (g s scratch : List ℤ) → length scratch ≡ length s → runOutcome c g s scratch ≡ run c g s
+the-call-runs = call-runs
+
+-- a site that passes the first three checks still passes them after an accepted step
+pub still-passes : (c : Card) (g s : List ℤ) → check c g s ≡ 0 → stepNumber c g s ≡ 0 → check c g (nextState c g s) ≡ 0
+still-passes = keeps
+
+-- so a run never meets 1 to 3 in its middle, and its steps and reason agree
+pub never-in-the-middle : (c : Card) (g s : List ℤ) → check c g s ≡ 0 → Ends c g (c .steps) (run c g s)
+never-in-the-middle = ends
+
+-- a run of m + n steps is a run of m steps and then one of n from where it ended
+pub slices : (c : Card) (g s : List ℤ) (m n : ℕ) → check (wanting c (m + n)) g s ≡ 0
+    → run (wanting c (m + n)) g s ≡ joined (run (wanting c m) g s) (run (wanting c n) g)
+slices = in-slices

@@ -1,0 +1,21 @@
+-- What is said of the run is said of the public call: lent a scratch list as long as its state, its tally and its state at exit are the run's.
+use Prim.Native.Nat.{ℕ}
+use mathlib.Core.Path.{_≡_, ap, _∙_}
+use mathlib.Core.List.{List}
+use lib.IntN.{ℤ}
+use lib.ListN.{length}
+use Rattle.rules.specs.declared.Card.{Card}
+use Rattle.rules.specs.Site.{check, checkWith, firstRefusal}
+use Rattle.rules.specs.Step.{stepNumber}
+use Rattle.rules.specs.Run.{runAfter, run}
+use Rattle.rules.specs.Calls.{stepAnswer, runOutcome}
+use Rattle.laws.specs.Facts.{check-own}
+
+pub call-runs : (c : Card) (g s scratch : List ℤ) → length scratch ≡ length s → runOutcome c g s scratch ≡ run c g s
+unfolding runOutcome run
+call-runs c g s scratch e = ap (λ (k : ℕ). runAfter k c g s) (ap (checkWith c g s) e ∙ check-own c g s)
+
+-- and the call of one step looks for the first three checks, and then for the step's own number
+pub call-steps : (c : Card) (g s next : List ℤ) → length next ≡ length s → stepAnswer c g s next ≡ firstRefusal (check c g s) (stepNumber c g s)
+unfolding stepAnswer
+call-steps c g s next e = ap (λ (k : ℕ). firstRefusal k (stepNumber c g s)) (ap (checkWith c g s) e ∙ check-own c g s)

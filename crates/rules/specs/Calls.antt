@@ -1,0 +1,99 @@
+-- Document 01, "Calls and their numbers": of every public call, what it returns and what each lent list holds at exit, for every input.
+use Prim.Native.Nat.{ℕ}
+use mathlib.Core.Bool.{cond, _&&_}
+use mathlib.Core.List.{List, _++_}
+use lib.ListN.{length, drop, replicate}
+use lib.IntN.{ℤ, pos}
+use lib.Dec.{leb}
+use Rattle.rules.specs.declared.Card.{Card}
+use Rattle.rules.specs.declared.Tally.{Tally}
+use Rattle.rules.specs.declared.Window.{Window}
+use Rattle.rules.specs.declared.Found.{Found}
+use Rattle.rules.specs.declared.Heard.{Heard}
+use Rattle.rules.specs.declared.Wrote.{Wrote}
+use Rattle.rules.specs.Site.{cardFits, lengthsFit, valuesFit, readGround, readState, firstOf, check, checkWith, firstRefusal, ifDone}
+use Rattle.rules.specs.Step.{stepNumber, nextState}
+use Rattle.rules.specs.Run.{Outcome, runAfter}
+use Rattle.rules.specs.Search.{registerFits, askedFits, listOf}
+use Rattle.rules.specs.Sheet.{sheetSize, sheetOf, cardIn, groundIn, stateIn, readNumber, noCard}
+use Rattle.rules.specs.Text.{depthText, fitted}
+
+-- ---- Step: reads ground and state, fills a next state. Refused: next state as lent.
+
+unfoldable pub stepAnswer : Card → (ground state next : List ℤ) → ℕ
+stepAnswer c g s next = firstRefusal (checkWith c g s (length next)) (stepNumber c g s)
+
+unfoldable pub stepNext : Card → (ground state next : List ℤ) → List ℤ
+stepNext c g s next = ifDone (stepAnswer c g s next) (nextState c g s) next
+
+-- ---- Run: a state and a scratch list of equal length. Reasons 1 to 3: both lists as lent. Otherwise scratch is all zero.
+
+unfoldable pub runOutcome : Card → (ground state scratch : List ℤ) → Outcome
+runOutcome c g s scratch = runAfter (checkWith c g s (length scratch)) c g s
+
+unfoldable pub runTally : Card → (ground state scratch : List ℤ) → Tally
+runTally c g s scratch = runOutcome c g s scratch .tally
+
+unfoldable pub runState : Card → (ground state scratch : List ℤ) → List ℤ
+runState c g s scratch = runOutcome c g s scratch .state
+
+unfoldable pub runScratch : Card → (ground state scratch : List ℤ) → List ℤ
+runScratch c g s scratch = ifDone (checkWith c g s (length scratch)) (replicate (length scratch) (pos 0)) scratch
+
+-- ---- Search: done: the count, the first count places filled, the rest as lent. 8: the count needed, list as lent. 1 to 3: count 0, list as lent.
+
+unfoldable pub searchCheck : Card → (ground state : List ℤ) → (xs ys : List ℤ) → Window → (depth : ℤ) → ℕ
+searchCheck c g s xs ys w depth =
+    firstOf (cardFits c) (lengthsFit c g s && registerFits xs ys) (valuesFit c (readGround c g) (readState c s) && askedFits c xs ys w depth)
+
+unfoldable pub searchNumber : Card → (ground state : List ℤ) → (xs ys : List ℤ) → Window → (depth : ℤ) (found : List ℕ) → ℕ
+searchNumber c g s xs ys w depth found =
+    firstRefusal (searchCheck c g s xs ys w depth) (cond (leb (length (listOf c s w depth xs ys)) (length found)) 0 8)
+
+unfoldable pub searchAnswer : Card → (ground state : List ℤ) → (xs ys : List ℤ) → Window → (depth : ℤ) (found : List ℕ) → Found
+searchAnswer c g s xs ys w depth found = record {
+  number = searchNumber c g s xs ys w depth found;
+  count = ifDone (searchCheck c g s xs ys w depth) (length (listOf c s w depth xs ys)) 0;
+}
+
+unfoldable pub searchFound : Card → (ground state : List ℤ) → (xs ys : List ℤ) → Window → (depth : ℤ) (found : List ℕ) → List ℕ
+searchFound c g s xs ys w depth found =
+    ifDone (searchNumber c g s xs ys w depth found)
+    (listOf c s w depth xs ys ++ drop (length (listOf c s w depth xs ys)) found)
+    found
+
+-- ---- Sheet reader: the number, site card, ground, state. Refused: an all-zero card, lists as lent.
+
+unfoldable pub readAnswer : (sheet : List ℕ) (ground state : List ℤ) → Heard
+readAnswer l g s = record {
+  number = readNumber l (length g) (length s);
+  card = ifDone (readNumber l (length g) (length s)) (cardIn l) noCard;
+}
+
+unfoldable pub readGroundList : (sheet : List ℕ) (ground state : List ℤ) → List ℤ
+readGroundList l g s = ifDone (readNumber l (length g) (length s)) (groundIn l) g
+
+unfoldable pub readStateList : (sheet : List ℕ) (ground state : List ℤ) → List ℤ
+readStateList l g s = ifDone (readNumber l (length g) (length s)) (stateIn l) s
+
+-- ---- Sheet writer: the number and the size, the bytes in front, the rest as lent; refused: size 0, bytes as lent.
+
+unfoldable pub writeNumber : Card → (ground state : List ℤ) (room : ℕ) → ℕ
+writeNumber c g s room = firstRefusal (check c g s) (cond (leb (sheetSize c) room) 0 8)
+
+unfoldable pub writeAnswer : Card → (ground state : List ℤ) (bytes : List ℕ) → Wrote
+writeAnswer c g s bytes = record {
+  number = writeNumber c g s (length bytes);
+  size = ifDone (writeNumber c g s (length bytes)) (sheetSize c) 0;
+}
+
+unfoldable pub writeBytes : Card → (ground state : List ℤ) (bytes : List ℕ) → List ℕ
+writeBytes c g s bytes = ifDone (writeNumber c g s (length bytes)) (sheetOf c g s ++ drop (sheetSize c) bytes) bytes
+
+-- ---- Depth text: the text at the front of the lent scratch, the rest as lent; none where the height is out of range or the scratch too short.
+
+unfoldable pub textPart : (height : ℤ) (scratch : List ℕ) → List ℕ
+textPart h scratch = fitted (depthText h) (length scratch)
+
+unfoldable pub textScratch : (height : ℤ) (scratch : List ℕ) → List ℕ
+textScratch h scratch = textPart h scratch ++ drop (length (textPart h scratch)) scratch

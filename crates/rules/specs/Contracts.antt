@@ -1,0 +1,57 @@
+-- The contracts of the public calls, each as one record of equations: the returned value, and the content at exit of every list that was lent to be written.
+-- There is no condition on what is given: refused calls are determined too.
+use Prim.Native.Nat.{ℕ}
+use mathlib.Core.Path.{_≡_}
+use mathlib.Core.List.{List}
+use lib.IntN.{ℤ}
+use lib.ListN.{length}
+use Rattle.rules.specs.declared.Card.{Card}
+use Rattle.rules.specs.declared.Tally.{Tally}
+use Rattle.rules.specs.declared.Window.{Window}
+use Rattle.rules.specs.declared.Chamber.{Chamber}
+use Rattle.rules.specs.declared.Found.{Found}
+use Rattle.rules.specs.declared.Heard.{Heard}
+use Rattle.rules.specs.declared.Wrote.{Wrote}
+use Rattle.rules.specs.Search.{xsOf, ysOf}
+use Rattle.rules.specs.Calls.{stepAnswer, stepNext, runTally, runState, runScratch, searchAnswer, searchFound, readAnswer, readGroundList, readStateList, writeAnswer, writeBytes, textPart, textScratch}
+
+-- ---- step
+
+pub record StepContract (c : Card) (ground state next : List ℤ) (number : ℕ) (nextAtExit : List ℤ) : Type 0 where
+  pub answer : number ≡ stepAnswer c ground state next
+  pub next-exit : nextAtExit ≡ stepNext c ground state next
+
+-- ---- run
+
+pub record RunContract (c : Card) (ground state scratch : List ℤ) (tally : Tally) (stateAtExit scratchAtExit : List ℤ) : Type 0 where
+  pub answer : tally ≡ runTally c ground state scratch
+  pub state-exit : stateAtExit ≡ runState c ground state scratch
+  pub scratch-exit : scratchAtExit ≡ runScratch c ground state scratch
+
+-- ---- search, over two lists of numbers and over a row of chambers
+
+pub record SearchContract (c : Card) (ground state xs ys : List ℤ) (w : Window) (depth : ℤ) (found : List ℕ) (answered : Found) (foundAtExit : List ℕ) : Type 0 where
+  pub answer : answered ≡ searchAnswer c ground state xs ys w depth found
+  pub found-exit : foundAtExit ≡ searchFound c ground state xs ys w depth found
+
+abbrev pub RowSearchContract : (c : Card) (ground state : List ℤ) (chambers : List Chamber) (w : Window) (depth : ℤ) (found : List ℕ) (answered : Found) (foundAtExit : List ℕ) → Type 0
+RowSearchContract c g s row w d f a v = SearchContract c g s (xsOf row) (ysOf row) w d f a v
+
+-- ---- sheet reader
+
+pub record ReadContract (sheet : List ℕ) (ground state : List ℤ) (heard : Heard) (groundAtExit stateAtExit : List ℤ) : Type 0 where
+  pub answer : heard ≡ readAnswer sheet ground state
+  pub ground-exit : groundAtExit ≡ readGroundList sheet ground state
+  pub state-exit : stateAtExit ≡ readStateList sheet ground state
+
+-- ---- sheet writer
+
+pub record WriteContract (c : Card) (ground state : List ℤ) (bytes : List ℕ) (wrote : Wrote) (bytesAtExit : List ℕ) : Type 0 where
+  pub answer : wrote ≡ writeAnswer c ground state bytes
+  pub bytes-exit : bytesAtExit ≡ writeBytes c ground state bytes
+
+-- ---- depth text
+
+pub record TextContract (height : ℤ) (scratch : List ℕ) (count : ℕ) (scratchAtExit : List ℕ) : Type 0 where
+  pub answer : count ≡ length (textPart height scratch)
+  pub scratch-exit : scratchAtExit ≡ textScratch height scratch

@@ -1,0 +1,62 @@
+-- Document 01, "The sheet player": what it prints for any bytes on standard input, in ASCII.
+use Prim.Native.Nat.{ℕ, zero, suc}
+use mathlib.Core.Bool.{cond, _&&_}
+use mathlib.Core.List.{List, [], _∷_, _++_}
+use lib.ListN.{length}
+use lib.IntN.{ℤ, natAbs}
+use lib.Dec.{leb, eqb}
+use Rattle.rules.specs.declared.Card.{Card}
+use Rattle.rules.specs.declared.Tally.{Tally}
+use Rattle.rules.specs.Site.{cells, stateLength, readState}
+use Rattle.rules.specs.Run.{Outcome, run}
+use Rattle.rules.specs.Sheet.{cardIn, groundIn, stateIn, readNumber}
+use Rattle.rules.specs.Text.{decimal, depthText}
+
+-- "steps ", " reason ", " top ", "refused ", ", " and a line feed
+abbrev pub stepsWord : List ℕ
+stepsWord = 115 ∷ 116 ∷ 101 ∷ 112 ∷ 115 ∷ 32 ∷ []
+
+abbrev pub reasonWord : List ℕ
+reasonWord = 32 ∷ 114 ∷ 101 ∷ 97 ∷ 115 ∷ 111 ∷ 110 ∷ 32 ∷ []
+
+abbrev pub topWord : List ℕ
+topWord = 32 ∷ 116 ∷ 111 ∷ 112 ∷ 32 ∷ []
+
+abbrev pub refusedWord : List ℕ
+refusedWord = 114 ∷ 101 ∷ 102 ∷ 117 ∷ 115 ∷ 101 ∷ 100 ∷ 32 ∷ []
+
+abbrev pub comma : List ℕ
+comma = 44 ∷ 32 ∷ []
+
+abbrev pub lineFeed : List ℕ
+lineFeed = 10 ∷ []
+
+-- `refused`, a space and a number
+unfoldable pub refusedLine : ℕ → List ℕ
+refusedLine k = refusedWord ++ (decimal k ++ lineFeed)
+
+-- steps done, reason and top in µm
+unfoldable pub tallyLine : Tally → List ℕ
+tallyLine t = stepsWord ++ (decimal (t .steps) ++ (reasonWord ++ (decimal (t .reason) ++ (topWord ++ (decimal (natAbs (t .top)) ++ lineFeed)))))
+
+-- the first n depth texts of row j, joined by a comma and a space
+unfoldable pub rowTexts : Card → (state : List ℤ) → (j n : ℕ) → List ℕ
+rowTexts c s j zero = []
+rowTexts c s j (suc i) = rowTexts c s j i ++ (cond (eqb i 0) [] comma ++ depthText (readState c s .height i j))
+
+-- a line for each of the first n rows, south first
+unfoldable pub rowLines : Card → (state : List ℤ) → ℕ → List ℕ
+rowLines c s zero = []
+rowLines c s (suc j) = rowLines c s j ++ (rowTexts c s j (c .columns) ++ lineFeed)
+
+unfoldable pub playedText : Card → Outcome → List ℕ
+playedText c o = tallyLine (o .tally) ++ rowLines c (o .state) (c .rows)
+
+-- where the reader's own number is 0: 8 where columns or rows exceed 32, else the run
+unfoldable pub playRead : (number : ℕ) → List ℕ → List ℕ
+playRead zero l = cond (leb (cardIn l .columns) 32 && leb (cardIn l .rows) 32) (playedText (cardIn l) (run (cardIn l) (groundIn l) (stateIn l))) (refusedLine 8)
+playRead (suc k) l = refusedLine (suc k)
+
+-- 8 for input over 16,659 bytes; else the reader's own number, its lists cut to the header's size
+unfoldable pub printed : (input : List ℕ) → List ℕ
+printed l = cond (leb (length l) 16659) (playRead (readNumber l (cells (cardIn l)) (stateLength (cardIn l))) l) (refusedLine 8)

@@ -1,0 +1,72 @@
+-- Document 01, "Numbers to check by": the starred cases, in a single table under a single claim, proved by computation.
+use Prim.Native.Nat.{ℕ}
+use mathlib.Core.Path.{_≡_, refl}
+use mathlib.Core.List.{List, [], _∷_}
+use lib.ListN.{replicate}
+use lib.IntN.{ℤ, pos, negℤ}
+use Rattle.rules.specs.declared.Card.{Card}
+use Rattle.rules.specs.Grid.{tabulate, grid, all, allAt, greatest}
+use Rattle.rules.specs.Site.{readGround, readState, writeState, stateLength, sizesFit, sidesFit, timesFit, cardFits, lengthsFit, groundsFit, depthsFit, facesFit, wallsStill, valuesFit, firstOf, checkWith, firstRefusal, ifDone}
+use Rattle.rules.specs.Step.{transfer, eastTransfer, northTransfer, withinLimit, newHeight, after, before, eastFace, northFace, outAhead, outBehind, outAbove, outBelow, positive, ownShare, brought, carried, slope, newVelocity, newEast, newNorth, next, limitKept, heightsFit, sharesFit, speedsFit, answer, number, stepNumber, nextState}
+use Rattle.rules.specs.Text.{digitsOf, decimal, heightText, depthText}
+use Rattle.rules.specs.Calls.{stepAnswer, stepNext}
+
+-- sides 1,000,000 and dt 100; one row
+unfoldable pub row : (columns : ℕ) → Card
+row columns = record { columns = columns; rows = 1; dx = 1000000; dy = 1000000; dt = 100; steps = 1 }
+
+-- flat ground 0 of so many cells
+unfoldable pub flat : ℕ → List ℤ
+flat n = replicate n (pos 0)
+
+-- a 2×1 state: two heights, three eastward velocities of which the middle one may move, four northward ones
+unfoldable pub two : (west east middle : ℤ) → List ℤ
+two a b u = a ∷ b ∷ pos 0 ∷ u ∷ pos 0 ∷ flat 4
+
+-- a 3×1 state: three heights, still
+unfoldable pub three : (west middle east : ℤ) → List ℤ
+three a b c = a ∷ b ∷ c ∷ flat 10
+
+-- a row of the table: the step of such a site is accepted, and gives such a state; it is refused, and leaves the list as it was lent
+abbrev pub Steps : (columns : ℕ) (ground state after : List ℤ) → Type 0
+Steps columns g s after = (stepAnswer (row columns) g s s ≡ 0) × (stepNext (row columns) g s s ≡ after)
+
+abbrev pub Refuses : (columns : ℕ) (ground state : List ℤ) (number : ℕ) → Type 0
+Refuses columns g s k = (stepAnswer (row columns) g s s ≡ k) × (stepNext (row columns) g s s ≡ s)
+
+pub record Starred : Type 0 where
+  -- two heights, still: heights stay, the middle velocity is 980,665; and the second step
+  pub first-step : Steps 2 (flat 2) (two (pos 2000000) (pos 1000000) (pos 0)) (two (pos 2000000) (pos 1000000) (pos 980665))
+  pub second-step : Steps 2 (flat 2) (two (pos 2000000) (pos 1000000) (pos 980665)) (two (pos 1803867) (pos 1196133) (pos 1512534))
+  -- the middle at 10,000,000 empties the west cell; one more breaks the step limit
+  pub emptied : Steps 2 (flat 2) (two (pos 2000000) (pos 1000000) (pos 10000000)) (two (pos 0) (pos 3000000) (pos 391338))
+  pub over-limit : Refuses 2 (flat 2) (two (pos 2000000) (pos 1000000) (pos 10000001)) 4
+  -- from height 3 at 5,000,000: 1; at -5,000,000: -1, not -2 (`negsuc n` is -(n + 1))
+  pub transfer-east : transfer 100 1000000 (pos 3) (pos 3) (pos 5000000) ≡ pos 1
+  pub transfer-west : transfer 100 1000000 (pos 3) (pos 3) (negℤ (pos 5000000)) ≡ negℤ (pos 1)
+  -- a pond over uneven ground lies still
+  pub still-pond : Steps 3 (pos 0 ∷ pos 400000 ∷ pos 100000 ∷ []) (three (pos 1000000) (pos 600000) (pos 900000)) (three (pos 1000000) (pos 600000) (pos 900000))
+  -- a dry bank
+  pub dry-bank : Steps 2 (pos 0 ∷ pos 1500000 ∷ []) (two (pos 1000000) (pos 0) (pos 0)) (two (pos 1000000) (pos 0) (negℤ (pos 490332)))
+  -- "dry", "<1 cm", "1 cm", "2 cm"
+  pub text-0 : depthText (pos 0) ≡ 100 ∷ 114 ∷ 121 ∷ []
+  pub text-9999 : depthText (pos 9999) ≡ 60 ∷ 49 ∷ 32 ∷ 99 ∷ 109 ∷ []
+  pub text-10000 : depthText (pos 10000) ≡ 49 ∷ 32 ∷ 99 ∷ 109 ∷ []
+  pub text-15000 : depthText (pos 15000) ≡ 50 ∷ 32 ∷ 99 ∷ 109 ∷ []
+
+pub starred : Starred
+unfolding row flat two three tabulate grid all allAt greatest readGround readState writeState stateLength sizesFit sidesFit timesFit cardFits lengthsFit groundsFit depthsFit facesFit wallsStill valuesFit firstOf checkWith firstRefusal ifDone transfer eastTransfer northTransfer withinLimit newHeight after before eastFace northFace outAhead outBehind outAbove outBelow positive ownShare brought carried slope newVelocity newEast newNorth next limitKept heightsFit sharesFit speedsFit answer number stepNumber nextState digitsOf decimal heightText depthText stepAnswer stepNext
+starred = record {
+  first-step = (refl, refl);
+  second-step = (refl, refl);
+  emptied = (refl, refl);
+  over-limit = (refl, refl);
+  transfer-east = refl;
+  transfer-west = refl;
+  still-pond = (refl, refl);
+  dry-bank = (refl, refl);
+  text-0 = refl;
+  text-9999 = refl;
+  text-10000 = refl;
+  text-15000 = refl;
+}
