@@ -25,5 +25,6 @@ mod sheet;
 mod stack;
 mod step;
 mod text;
+mod threads;
 mod turns;
 mod wrapper;

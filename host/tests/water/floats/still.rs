@@ -8,7 +8,7 @@ use water::{Card, Site};
 #[test]
 fn a_lake_at_rest() {
     let rng = &mut Rng::new(2);
-    let card = Card { columns: 40, rows: 30, dx: 700_000, dy: 1_300_000, dt: 200, steps: 1_000 };
+    let card = Card { columns: 24, rows: 18, dx: 700_000, dy: 1_300_000, dt: 200, steps: 500 };
     let mut lake = Wild::empty(card);
     for k in 0..lake.ground.len() {
         lake.ground[k] = rng.between(-20_000_000, 9_999_999) as i32;
@@ -16,7 +16,7 @@ fn a_lake_at_rest() {
     }
     let mut site = Site::new(card, lake.ground.clone(), lake.state.clone()).unwrap();
     let tally = site.run();
-    assert_eq!((tally.steps, tally.reason), (1_000, None));
+    assert_eq!((tally.steps, tally.reason), (500, None));
     let off = site.state().iter().zip(&lake.state).map(|(a, b)| (a - b).abs()).max().unwrap();
 
     let mut water = Water::of(&card, &lake.state);
@@ -26,6 +26,6 @@ fn a_lake_at_rest() {
     let rest = Water::of(&card, &lake.state);
     let all = |water: &Water| [&water.heights[..], &water.east, &water.north].concat();
     let float_off = all(&water).iter().zip(&all(&rest)).fold(0.0, |most: f64, (a, b)| most.max((a - b).abs()));
-    println!("floats, lake at rest: off by {off} µm after 1,000 steps, the doubles by {float_off} after 100");
+    println!("floats, lake at rest: off by {off} µm after 500 steps, the doubles by {float_off} after 100");
     assert_eq!((off, float_off), (0, 0.0));
 }
