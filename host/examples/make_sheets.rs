@@ -18,9 +18,9 @@ fn still(card: Card, ground: impl Fn(i32, i32) -> i32, height: impl Fn(i32, i32)
     Site::still(card, ground, &heights).expect("a site in range")
 }
 
-/// A dam across a flat yard breaks: 2 m of water stand in the west, 50 cm in the east.
+/// The dam around a tank in the south-west corner of a flat yard breaks: 2 m of water stand in it, 50 cm in the yard.
 fn dam_break() -> Site {
-    still(card(16, 4, 50, 40), |_, _| 0, |i, _| if i < 6 { 2_000_000 } else { 500_000 })
+    still(card(16, 8, 50, 40), |_, _| 0, |i, j| if i < 6 && j < 5 { 2_000_000 } else { 500_000 })
 }
 
 /// A pond over a bowl, its surface at 1.2 m everywhere: nothing moves.
@@ -29,12 +29,12 @@ fn pond_at_rest() -> Site {
     still(card(12, 6, 100, 100), bowl, move |i, j| 1_200_000 - bowl(i, j))
 }
 
-/// An upper yard drains down a ramp into a basin 1.5 m below; a film of 2 cm covers ramp and basin at the start.
+/// An upper yard drains down a ramp into a basin 1.5 m below, deepest along its middle; a film of 2 cm covers ramp and basin at the start.
 fn basin_fills() -> Site {
-    let ground = |i: i32, _: i32| match i {
+    let ground = |i: i32, j: i32| match i {
         0..=5 => 1_500_000,
         6..=11 => 1_500_000 - 250_000 * (i - 5),
-        _ => 0,
+        _ => 80_000 * (2 * j - 5).abs() - 80_000,
     };
     still(card(20, 6, 40, 500), ground, |i, _| if i < 6 { 1_000_000 } else { 20_000 })
 }
