@@ -1,25 +1,14 @@
 -- A list filled with another one from the front, one element a turn: what the loop keeps, and one law for each need.
-use mathlib.Core.Path.{_≡_, _∙_, ap, sym, refl}
+use mathlib.Core.Path.{_≡_, _∙_, ap, refl}
 use mathlib.Core.List.{List, _++_, append-nil}
-use Prim.Native.Nat.{ℕ, suc, _+_, _≤_, _<_}
-use native.Mathlib.Nat.{le-of-lt}
-use native.Mathlib.Numerals.{add-one}
+use Prim.Native.Nat.{ℕ, _+_, _≤_, _<_}
+use native.Mathlib.Nat.{le-refl}
 use native.Mathlib.Omega.{arith}
-use lib.ListN.{length, getD, set, take, drop, length-append, length-drop, length-set, drop-of-length-le}
-use lib.Seq.{length-take-le, drop-cons, set-at, append-snoc, take-suc, take-all}
+use lib.ListN.{length, getD, set, take, drop, length-set, drop-of-length-le}
+use lib.Seq.{take-all}
+use Rattle.laws.specs.Fronts.{copy-more}
 
 module _ {A : Type 0} where
-  copy-more : (from old : List A) (i : ℕ) (d : A) {to : List A} {v : A} → to ≡ take i from ++ drop i old → v ≡ getD from i d → i < length from
-      → i < length to → set to i v ≡ take (i + 1) from ++ drop (i + 1) old
-  copy-more from old i d {to} {v} is rule h k =
-      let e : length (take i from) ≡ i = length-take-le i from (le-of-lt h) in
-      let l : i < length old = omega (arith, ap length is, length-append (take i from) (drop i old), length-drop i old) in
-      rw (is, rule, add-one i)
-      (ap (λ (t : List A). set (take i from ++ t) i (getD from i d)) (drop-cons old i d l)
-      ∙ set-at (take i from) (getD old i d) (drop (suc i) old) (getD from i d) i e
-      ∙ sym (append-snoc (take i from) (getD from i d) (drop (suc i) old))
-      ∙ ap (λ (t : List A). t ++ drop (suc i) old) (sym (take-suc from i d h)))
-
   -- `to` is `old` with its first i elements taken from `from`
   pub record Copied (from old to : List A) (i : ℕ) : Type 0 where
     pub most : i ≤ length from
@@ -37,7 +26,7 @@ module _ {A : Type 0} where
           most = omega arith;
           long = length-set to i v ∙ h .long;
           same = length-set to i v ∙ h .same;
-          is = copy-more from old i d (h .is) e hi (omega arith);
+          is = rw e (copy-more {n = length from} d (record { most = h .most; is = h .is }) hi (le-refl (length from)) (omega arith) .is);
         }
 
     pub done : {to : List A} {i : ℕ} → Copied from old to i → length from ≤ i → to ≡ from

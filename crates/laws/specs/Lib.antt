@@ -24,6 +24,9 @@ pub mod Gather
 pub mod Between
 pub mod Values
 pub mod Facts
+pub mod Sheets
+pub mod Outcomes
+pub mod Along
 pub mod Sizes
 pub mod Transfers
 pub mod Exact
@@ -33,4 +36,8 @@ pub mod Velocities
 pub mod Behind
 pub mod Linear
 pub mod Outcomes
-pub mod GatherRows
+pub mod Rising
+pub mod Asked
+pub mod Fronts
+pub mod Listings
+pub mod Signs

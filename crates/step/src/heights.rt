@@ -60,7 +60,7 @@ fn height_fits(card: Card, tide: &[i32], i: usize, j: usize) -> bool
     h <= 50000000
 }
 
-// Whether every height is. It looks at them all, whatever it finds: so the loops have no branch.
+// Whether every height is.
 pub fn heights_fit(card: Card, tide: &[i32]) -> bool
     requires { ⌜ TideHeld card (now tide) ⌝ }
     ensures { λ r. ⌜ r ≡ allAt (card .columns) (card .rows) (λ i j. leZ (readState card (now (tide .entry)) .height i j) (pos 50000000)) ⌝ }

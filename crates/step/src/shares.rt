@@ -1,5 +1,5 @@
-// Refusal 6: whether no own share is negative, of the eastward inner faces and of the northward ones. No branch in the loops: no site that keeps
-// the step limit has a negative share, so that to stop at the first would save nothing.
+// Refusal 6: whether no own share is negative. A look at the eastward inner faces and one at the northward ones; neither is left early, so that
+// several faces are looked at at once.
 use super::faces;
 use rules::Card;
 ghost use mathlib.Core.Path.{_≡_};

@@ -1,7 +1,8 @@
+-- `step::shares::eastward` meets its contract.
 use Prim.Native.Nat.{_-_}
 use native.Mathlib.Omega.{arith}
 use borrow.Author.Needs.{needs}
-use Rattle.laws.specs.GatherRows.{RowsGathered, CellsGathered, begin, begin-row, more, more-rows, done}
+use Rattle.laws.specs.Gather.{RowsGathered, CellsGathered, rows-none, row-none, row-more, rows-more, rows-all}
 use Rattle.step.specs.Shares.{eastShareFits}
 use Rattle.step.proofs.Around.{sound-of}
 use Rattle.step.proofs.Sites.{facts}
@@ -9,7 +10,7 @@ use Rattle.step.proofs.shares.eastward.Statement.{statement}
 use Rattle.step.proofs.shares.eastward.Tie as tie
 
 abbrev Inv-loop2 : tie.InvT-loop2
-Inv-loop2 card ground state tide rows inner fit₀ j i₀ fit i = CellsGathered inner rows (eastShareFits card ground state) j fit i
+Inv-loop2 card ground state tide rows inner fit₀ j i₀ fit i = CellsGathered inner (eastShareFits card ground state) j fit i
 
 abbrev μ-loop2 : tie.MeasureT-loop2
 μ-loop2 card ground state tide rows inner fit₀ j i₀ fit i = inner - i
@@ -30,10 +31,10 @@ sub-inner : tie.Need-sub-inner Inv-loop2 μ-loop2 Inv-loop μ-loop
 sub-inner c = let card = facts (sound-of (c .before .before .pre)) .card in omega arith
 
 loop-holds : tie.Need-loop-holds Inv-loop2 μ-loop2 Inv-loop μ-loop
-loop-holds c = begin
+loop-holds c = rows-none
 
 loop2-holds : tie.Need-loop2-holds Inv-loop2 μ-loop2 Inv-loop μ-loop
-loop2-holds c = begin-row (c .before .loop .inv)
+loop2-holds c = row-none (c .before .loop .inv)
 
 east-fits-requires : tie.Need-east-fits-requires Inv-loop2 μ-loop2 Inv-loop μ-loop
 east-fits-requires c κs =
@@ -46,7 +47,7 @@ loop2-less : tie.Need-loop2-less Inv-loop2 μ-loop2 Inv-loop μ-loop
 loop2-less c = omega arith
 
 loop2-again : tie.Need-loop2-again Inv-loop2 μ-loop2 Inv-loop μ-loop
-loop2-again c = more (c .before .before .loop2 .inv) (c .before .loop2-test .taken) (c .east-fits .ensures)
+loop2-again c = row-more (c .before .before .loop2 .inv) (c .before .loop2-test .taken) (c .east-fits .ensures)
 
 add-j : tie.Need-add-j Inv-loop2 μ-loop2 Inv-loop μ-loop
 add-j c = omega arith
@@ -55,10 +56,10 @@ loop-less : tie.Need-loop-less Inv-loop2 μ-loop2 Inv-loop μ-loop
 loop-less c = omega arith
 
 loop-again : tie.Need-loop-again Inv-loop2 μ-loop2 Inv-loop μ-loop
-loop-again c = more-rows (c .before .loop2 .inv) (c .before .before .loop-test .taken) (c .loop2-test .left)
+loop-again c = rows-more (c .before .loop2 .inv) (c .before .before .loop-test .taken) (c .loop2-test .left)
 
 returns : tie.Need-returns Inv-loop2 μ-loop2 Inv-loop μ-loop
-returns c = done (c .before .loop .inv) (c .loop-test .left)
+returns c = rows-all (c .before .loop .inv) (c .loop-test .left)
 
 pub eastward-spec : {M : Type 1} → statement M
 eastward-spec =

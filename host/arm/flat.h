@@ -1,0 +1,17 @@
+/* The library's calls with every record behind a pointer: words and pointers only, which every machine hands over alike. */
+#include "water.h"
+
+#define LIST(type, name) type *name, size_t name##_length
+#define LENT(name) name, name##_length
+#define GROUND LIST(const int32_t, ground)
+#define STATE LIST(const int32_t, state)
+
+uint32_t flat_step(const WaterCard *card, GROUND, STATE, LIST(int32_t, next));
+void flat_run(const WaterCard *card, GROUND, LIST(int32_t, state), LIST(int32_t, scratch), WaterTally *tally);
+void flat_search(const WaterCard *card, GROUND, STATE, LIST(const WaterChamber, chambers), const WaterWindow *window,
+                 int32_t depth, LIST(uint32_t, found), WaterFound *answer);
+void flat_search_lists(const WaterCard *card, GROUND, STATE, LIST(const int64_t, xs), LIST(const int64_t, ys),
+                       const WaterWindow *window, int32_t depth, LIST(uint32_t, found), WaterFound *answer);
+void flat_read_sheet(LIST(const uint8_t, sheet), LIST(int32_t, ground), LIST(int32_t, state), WaterHeard *heard);
+void flat_write_sheet(const WaterCard *card, GROUND, STATE, LIST(uint8_t, bytes), WaterWrote *wrote);
+size_t flat_depth_text(int32_t height, LIST(uint8_t, scratch));

@@ -1,0 +1,11 @@
+//! The same work in plain Rust, as a good programmer would write it for speed: safe, on slices, i64 arithmetic, the same checks, three
+//! divisions a face, buffers made once and used again. The benchmark measures the library beside it; a test holds it to the model.
+
+mod search;
+mod sheet;
+mod site;
+mod step;
+
+pub use search::{search, search_lists};
+pub use sheet::{read_sheet, write_sheet};
+pub use step::Plain;

@@ -1,0 +1,278 @@
+//! The step and the run. `tide` holds the new heights and what crosses each face, in the state's own layout.
+
+use super::site::{check, speed_fits};
+use water::raw::{Card, Tally};
+
+/// The buffers of a step, made once.
+pub struct Plain {
+    tide: Vec<i32>,
+    draft: Vec<i32>,
+}
+
+/// The parts of a list that is laid out as a state.
+struct Parts<'a> {
+    heights: &'a [i32],
+    east: &'a [i32],
+    north: &'a [i32],
+}
+
+fn parts<'a>(card: &Card, list: &'a [i32]) -> Parts<'a> {
+    let (columns, rows) = (card.columns as usize, card.rows as usize);
+    let (heights, velocities) = list.split_at(columns * rows);
+    let (east, north) = velocities.split_at((columns + 1) * rows);
+    Parts { heights, east, north }
+}
+
+impl Plain {
+    pub fn new() -> Plain {
+        Plain { tide: vec![0; 49_408], draft: vec![0; 49_408] }
+    }
+
+    pub fn step(&mut self, card: Card, ground: &[i32], state: &[i32], next: &mut [i32]) -> u32 {
+        let mut number = check(&card, ground, state, next.len() == state.len());
+        if number == 0 {
+            let draft = &mut self.draft[..state.len()];
+            number = advance(&card, ground, state, &mut self.tide[..state.len()], draft);
+            if number == 0 {
+                next.copy_from_slice(draft);
+            }
+        }
+        number
+    }
+
+    pub fn run(&mut self, card: Card, ground: &[i32], state: &mut [i32], scratch: &mut [i32]) -> Tally {
+        let reason = check(&card, ground, state, scratch.len() == state.len());
+        if reason != 0 {
+            return Tally { steps: 0, reason, top: 0 };
+        }
+        let tide = &mut self.tide[..state.len()];
+        let cells = ground.len();
+        let greatest = |state: &[i32]| state[..cells].iter().fold(0, |top, &height| top.max(height));
+        let mut tally = Tally { steps: 0, reason: 0, top: greatest(state) };
+        // the two lists change places with every step
+        let (mut now, mut then) = (state, scratch);
+        while tally.steps < card.steps {
+            tally.reason = advance(&card, ground, now, tide, then);
+            if tally.reason != 0 {
+                break;
+            }
+            std::mem::swap(&mut now, &mut then);
+            tally.steps += 1;
+            tally.top = tally.top.max(greatest(now));
+        }
+        let scratch = if tally.steps % 2 == 0 {
+            then
+        } else {
+            then.copy_from_slice(now);
+            now
+        };
+        scratch.fill(0);
+        tally
+    }
+}
+
+fn limit_kept(card: &Card, state: &Parts) -> bool {
+    let (columns, rows) = (card.columns as usize, card.rows as usize);
+    let (dx, dy, dt) = (i64::from(card.dx), i64::from(card.dy), i64::from(card.dt));
+    let size = |velocity: i32| i64::from(velocity.unsigned_abs());
+    (0..rows).all(|j| {
+        let east = &state.east[j * (columns + 1)..][..columns + 1];
+        let south = &state.north[j * columns..][..columns];
+        let north = &state.north[(j + 1) * columns..][..columns];
+        (0..columns)
+            .all(|i| dt * ((size(east[i]) + size(east[i + 1])) * dy + (size(south[i]) + size(north[i])) * dx) <= 1_000 * dx * dy)
+    })
+}
+
+fn transfer(height_k: i32, height_l: i32, u: i32, dt: i64, d: i64) -> i32 {
+    let height = if u > 0 { height_k } else { height_l };
+    (i64::from(height) * i64::from(u) * dt / (1_000 * d)) as i32
+}
+
+fn transfers(card: &Card, state: &Parts, east: &mut [i32], north: &mut [i32]) {
+    let (columns, rows) = (card.columns as usize, card.rows as usize);
+    let (dx, dy, dt) = (i64::from(card.dx), i64::from(card.dy), i64::from(card.dt));
+    for j in 0..rows {
+        let heights = &state.heights[j * columns..][..columns];
+        let velocities = &state.east[j * (columns + 1)..][..columns + 1];
+        let row = &mut east[j * (columns + 1)..][..columns + 1];
+        row[0] = 0;
+        row[columns] = 0;
+        for i in 1..columns {
+            row[i] = transfer(heights[i - 1], heights[i], velocities[i], dt, dx);
+        }
+    }
+    north[..columns].fill(0);
+    north[columns * rows..].fill(0);
+    for j in 1..rows {
+        let south_heights = &state.heights[(j - 1) * columns..][..columns];
+        let heights = &state.heights[j * columns..][..columns];
+        let velocities = &state.north[j * columns..][..columns];
+        let row = &mut north[j * columns..][..columns];
+        for i in 0..columns {
+            row[i] = transfer(south_heights[i], heights[i], velocities[i], dt, dy);
+        }
+    }
+}
+
+fn new_heights(card: &Card, old: &[i32], east: &[i32], north: &[i32], new: &mut [i32]) -> bool {
+    let columns = card.columns as usize;
+    let mut fit = true;
+    for (j, row) in new.chunks_exact_mut(columns).enumerate() {
+        let old = &old[j * columns..][..columns];
+        let east = &east[j * (columns + 1)..][..columns + 1];
+        let south = &north[j * columns..][..columns];
+        let north = &north[(j + 1) * columns..][..columns];
+        for i in 0..columns {
+            row[i] = old[i] + east[i] - east[i + 1] + south[i] - north[i];
+            fit &= row[i] <= 50_000_000;
+        }
+    }
+    fit
+}
+
+/// The numbers around one inner face; the flows are out of the face's cell.
+struct Face {
+    u: i32,
+    old_sum: i64,
+    new_sum: i64,
+    rise: i64,
+    flows: [i64; 4],
+    beyond: [i32; 4],
+}
+
+impl Face {
+    fn own_share(&self) -> i64 {
+        self.old_sum - self.flows.iter().map(|&flow| flow.max(0)).sum::<i64>()
+    }
+
+    fn new_velocity(&self, own_share: i64, force: i64, side: i64) -> i64 {
+        if self.new_sum == 0 {
+            return 0;
+        }
+        let mut carried = own_share * i64::from(self.u);
+        for (&flow, &velocity) in self.flows.iter().zip(&self.beyond) {
+            carried += (-flow).max(0) * i64::from(velocity);
+        }
+        carried / self.new_sum - force * self.rise / side
+    }
+}
+
+fn sum(a: i32, b: i32) -> i64 {
+    i64::from(a) + i64::from(b)
+}
+
+/// What the velocity passes found wrong.
+#[derive(Default)]
+struct Wrong {
+    six: bool,
+    seven: bool,
+}
+
+impl Wrong {
+    /// The new velocity of a face, noted where it or the face's own share is out of range.
+    fn velocity(&mut self, face: Face, force: i64, side: i64) -> i32 {
+        let own_share = face.own_share();
+        self.six |= own_share < 0;
+        let velocity = face.new_velocity(own_share, force, side);
+        self.seven |= i32::try_from(velocity).map_or(true, |velocity| !speed_fits(velocity));
+        velocity as i32
+    }
+}
+
+fn eastward(card: &Card, ground: &[i32], state: &Parts, tide: &Parts, next: &mut [i32], wrong: &mut Wrong) {
+    let (columns, rows) = (card.columns as usize, card.rows as usize);
+    let (force, side) = (9_806_650 * i64::from(card.dt), 1_000 * i64::from(card.dx));
+    for j in 0..rows {
+        let old = &state.heights[j * columns..][..columns];
+        let new = &tide.heights[j * columns..][..columns];
+        let ground = &ground[j * columns..][..columns];
+        let own = &tide.east[j * (columns + 1)..][..columns + 1];
+        let south = &tide.north[j * columns..][..columns];
+        let north = &tide.north[(j + 1) * columns..][..columns];
+        let u = &state.east[j * (columns + 1)..][..columns + 1];
+        // beyond a side wall there is no flow, so that any velocities do
+        let u_north = if j + 1 < rows { &state.east[(j + 1) * (columns + 1)..][..columns + 1] } else { u };
+        let u_south = if j > 0 { &state.east[(j - 1) * (columns + 1)..][..columns + 1] } else { u };
+        let row = &mut next[j * (columns + 1)..][..columns + 1];
+        row[0] = 0;
+        row[columns] = 0;
+        for i in 1..columns {
+            let face = Face {
+                u: u[i],
+                old_sum: sum(old[i - 1], old[i]),
+                new_sum: sum(new[i - 1], new[i]),
+                rise: sum(new[i], ground[i]) - sum(new[i - 1], ground[i - 1]),
+                flows: [
+                    sum(own[i], own[i + 1]),
+                    -sum(own[i], own[i - 1]),
+                    sum(north[i - 1], north[i]),
+                    -sum(south[i - 1], south[i]),
+                ],
+                beyond: [u[i + 1], u[i - 1], u_north[i], u_south[i]],
+            };
+            row[i] = wrong.velocity(face, force, side);
+        }
+    }
+}
+
+fn northward(card: &Card, ground: &[i32], state: &Parts, tide: &Parts, next: &mut [i32], wrong: &mut Wrong) {
+    let (columns, rows) = (card.columns as usize, card.rows as usize);
+    let (force, side) = (9_806_650 * i64::from(card.dt), 1_000 * i64::from(card.dy));
+    next[..columns].fill(0);
+    next[columns * rows..].fill(0);
+    for j in 1..rows {
+        let (old_k, old_l) = state.heights[(j - 1) * columns..][..2 * columns].split_at(columns);
+        let (new_k, new_l) = tide.heights[(j - 1) * columns..][..2 * columns].split_at(columns);
+        let (ground_k, ground_l) = ground[(j - 1) * columns..][..2 * columns].split_at(columns);
+        let (behind, own) = tide.north[(j - 1) * columns..][..2 * columns].split_at(columns);
+        let ahead = &tide.north[(j + 1) * columns..][..columns];
+        let (east_k, east_l) = tide.east[(j - 1) * (columns + 1)..][..2 * (columns + 1)].split_at(columns + 1);
+        let (u_behind, u) = state.north[(j - 1) * columns..][..2 * columns].split_at(columns);
+        let u_ahead = &state.north[(j + 1) * columns..][..columns];
+        let row = &mut next[j * columns..][..columns];
+        for i in 0..columns {
+            let face = Face {
+                u: u[i],
+                old_sum: sum(old_k[i], old_l[i]),
+                new_sum: sum(new_k[i], new_l[i]),
+                rise: sum(new_l[i], ground_l[i]) - sum(new_k[i], ground_k[i]),
+                flows: [
+                    sum(own[i], ahead[i]),
+                    -sum(own[i], behind[i]),
+                    sum(east_k[i + 1], east_l[i + 1]),
+                    -sum(east_k[i], east_l[i]),
+                ],
+                beyond: [u_ahead[i], u_behind[i], u[(i + 1).min(columns - 1)], u[i.saturating_sub(1)]],
+            };
+            row[i] = wrong.velocity(face, force, side);
+        }
+    }
+}
+
+/// One step of a site that passed the first three checks: 0 and the next state, or 4 to 7 and anything in `next`.
+fn advance(card: &Card, ground: &[i32], state: &[i32], tide: &mut [i32], next: &mut [i32]) -> u32 {
+    let (columns, rows) = (card.columns as usize, card.rows as usize);
+    let old = parts(card, state);
+    if !limit_kept(card, &old) {
+        return 4;
+    }
+    let (heights, crossed) = tide.split_at_mut(columns * rows);
+    let (east, north) = crossed.split_at_mut((columns + 1) * rows);
+    transfers(card, &old, east, north);
+    if !new_heights(card, old.heights, east, north, heights) {
+        return 5;
+    }
+    let tide = parts(card, tide);
+    let mut wrong = Wrong::default();
+    let (heights, velocities) = next.split_at_mut(columns * rows);
+    let (east, north) = velocities.split_at_mut((columns + 1) * rows);
+    heights.copy_from_slice(tide.heights);
+    eastward(card, ground, &old, &tide, east, &mut wrong);
+    northward(card, ground, &old, &tide, north, &mut wrong);
+    match wrong {
+        Wrong { six: true, .. } => 6,
+        Wrong { seven: true, .. } => 7,
+        _ => 0,
+    }
+}

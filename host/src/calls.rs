@@ -1,0 +1,186 @@
+//! The library's calls on slices: typed refusals in the place of numbers, nothing else added.
+//!
+//! Each takes any input at all. Where one is refused, every lent list is as it was, but for a run that is stopped on its way.
+
+use crate::raw::{self, Card, Chamber, Window};
+use crate::refusal::Refusal;
+
+/// What a run answers.
+#[derive(Clone, Copy, Debug, PartialEq, Eq)]
+pub struct Tally {
+    /// steps done
+    pub steps: u32,
+    /// why the run stopped before it had done all steps; none if it did them all
+    pub reason: Option<Refusal>,
+    /// the greatest height in the starting state and each accepted one
+    pub top: i32,
+}
+
+fn done<T>(number: u32, needed: usize, answer: T) -> Result<T, Refusal> {
+    match Refusal::of(number, needed) {
+        None => Ok(answer),
+        Some(refusal) => Err(refusal),
+    }
+}
+
+/// One step: fills `next` from `ground` and `state`.
+///
+/// ```
+/// use water::{calls, Card, Refusal};
+/// let card = Card { columns: 2, rows: 1, dx: 1_000_000, dy: 1_000_000, dt: 100, steps: 0 };
+/// let still = [2_000_000, 1_000_000, 0, 0, 0, 0, 0, 0, 0];
+/// let mut next = [0; 9];
+/// calls::step(card, &[0, 0], &still, &mut next).unwrap();
+/// assert_eq!(next, [2_000_000, 1_000_000, 0, 980_665, 0, 0, 0, 0, 0]);
+///
+/// let mut short = [7; 8];
+/// assert_eq!(calls::step(card, &[0, 0], &still, &mut short), Err(Refusal::Length));
+/// assert_eq!(short, [7; 8]);
+/// ```
+pub fn step(card: Card, ground: &[i32], state: &[i32], next: &mut [i32]) -> Result<(), Refusal> {
+    // Safety, here and below: each pointer comes with its own slice's length, and what is filled is borrowed alone.
+    let number = unsafe {
+        raw::water_step(card, ground.as_ptr(), ground.len(), state.as_ptr(), state.len(), next.as_mut_ptr(), next.len())
+    };
+    done(number, 0, ())
+}
+
+/// As many steps as the card wants, on `state` itself. `scratch` is as long as `state`, and all zero afterwards.
+///
+/// Refused at the start (`Card`, `Length`, `Value`) nothing is touched; otherwise `state` holds the last accepted state.
+///
+/// ```
+/// use water::{calls, Card};
+/// let card = Card { columns: 2, rows: 1, dx: 1_000_000, dy: 1_000_000, dt: 100, steps: 2 };
+/// let mut state = [2_000_000, 1_000_000, 0, 0, 0, 0, 0, 0, 0];
+/// let tally = calls::run(card, &[0, 0], &mut state, &mut [0; 9]);
+/// assert_eq!((tally.steps, tally.reason, tally.top), (2, None, 2_000_000));
+/// assert_eq!(state, [1_803_867, 1_196_133, 0, 1_512_534, 0, 0, 0, 0, 0]);
+/// ```
+pub fn run(card: Card, ground: &[i32], state: &mut [i32], scratch: &mut [i32]) -> Tally {
+    let tally = unsafe {
+        raw::water_run(card, ground.as_ptr(), ground.len(), state.as_mut_ptr(), state.len(), scratch.as_mut_ptr(), scratch.len())
+    };
+    Tally { steps: tally.steps, reason: Refusal::of(tally.reason, 0), top: tally.top }
+}
+
+/// The chambers inside `window` whose cell is at least `depth` deep: the first places of `found`, as many as is answered, hold
+/// their places in the register, rising.
+///
+/// ```
+/// use water::{calls, Card, Chamber, Refusal, Window};
+/// let card = Card { columns: 2, rows: 1, dx: 1_000_000, dy: 1_000_000, dt: 100, steps: 0 };
+/// let state = [2_000_000, 1_000_000, 0, 0, 0, 0, 0, 0, 0];
+/// let register = [Chamber { x: 1_000_000, y: 0 }, Chamber { x: 999_999, y: 0 }];
+/// let all = Window { west: 0.0, south: 0.0, east: 2e6, north: 1e6 };
+/// let mut found = [9; 2];
+/// assert_eq!(calls::search(card, &[0, 0], &state, &register, all, 1_500_000, &mut found), Ok(1));
+/// assert_eq!(found, [1, 9]);
+/// let none = calls::search(card, &[0, 0], &state, &register, all, 0, &mut []);
+/// assert_eq!(none, Err(Refusal::Room { needed: 2 }));
+/// ```
+pub fn search(
+    card: Card,
+    ground: &[i32],
+    state: &[i32],
+    chambers: &[Chamber],
+    window: Window,
+    depth: i32,
+    found: &mut [u32],
+) -> Result<usize, Refusal> {
+    let answer = unsafe {
+        raw::water_search(
+            card,
+            ground.as_ptr(),
+            ground.len(),
+            state.as_ptr(),
+            state.len(),
+            chambers.as_ptr(),
+            chambers.len(),
+            window,
+            depth,
+            found.as_mut_ptr(),
+            found.len(),
+        )
+    };
+    done(answer.number, answer.count as usize, answer.count as usize)
+}
+
+/// The same search over a register kept as two lists, `xs` and `ys`.
+#[allow(clippy::too_many_arguments)]
+pub fn search_lists(
+    card: Card,
+    ground: &[i32],
+    state: &[i32],
+    xs: &[i64],
+    ys: &[i64],
+    window: Window,
+    depth: i32,
+    found: &mut [u32],
+) -> Result<usize, Refusal> {
+    let answer = unsafe {
+        raw::water_search_lists(
+            card,
+            ground.as_ptr(),
+            ground.len(),
+            state.as_ptr(),
+            state.len(),
+            xs.as_ptr(),
+            xs.len(),
+            ys.as_ptr(),
+            ys.len(),
+            window,
+            depth,
+            found.as_mut_ptr(),
+            found.len(),
+        )
+    };
+    done(answer.number, answer.count as usize, answer.count as usize)
+}
+
+/// Reads a sheet into `ground` and `state`, which have the lengths that the sheet's columns and rows ask for.
+pub fn read_sheet(sheet: &[u8], ground: &mut [i32], state: &mut [i32]) -> Result<Card, Refusal> {
+    let heard = unsafe {
+        raw::water_read_sheet(sheet.as_ptr(), sheet.len(), ground.as_mut_ptr(), ground.len(), state.as_mut_ptr(), state.len())
+    };
+    done(heard.number, 0, heard.card)
+}
+
+/// Writes a sheet to the front of `bytes`, and answers its size.
+///
+/// ```
+/// use water::{calls, Card, Refusal};
+/// let card = Card { columns: 1, rows: 1, dx: 1_000_000, dy: 1_000_000, dt: 100, steps: 1 };
+/// let mut bytes = [0; 43];
+/// assert_eq!(calls::write_sheet(card, &[0], &[7, 0, 0, 0, 0], &mut bytes), Ok(43));
+/// assert_eq!(bytes[..7], [0, 0, 0, 43, 1, 1, 1]);
+/// assert_eq!(calls::write_sheet(card, &[0], &[7, 0, 0, 0, 0], &mut bytes[1..]), Err(Refusal::Room { needed: 43 }));
+/// ```
+pub fn write_sheet(card: Card, ground: &[i32], state: &[i32], bytes: &mut [u8]) -> Result<usize, Refusal> {
+    let wrote = unsafe {
+        raw::water_write_sheet(card, ground.as_ptr(), ground.len(), state.as_ptr(), state.len(), bytes.as_mut_ptr(), bytes.len())
+    };
+    // a card that is out of range is refused with 1 before its size is asked for
+    let needed = if wrote.number == 8 { card.sheet_size() } else { 0 };
+    done(wrote.number, needed, wrote.size as usize)
+}
+
+/// The depth text of a height, at the front of `scratch`; none if the height is out of range or `scratch` is shorter than the text.
+/// Seven bytes are always enough.
+///
+/// ```
+/// let mut scratch = *b"-------";
+/// assert_eq!(water::calls::depth_text(15_000, &mut scratch), Some("2 cm"));
+/// assert_eq!(&scratch, b"2 cm---");
+/// assert_eq!(water::calls::depth_text(0, &mut scratch), Some("dry"));
+/// assert_eq!(water::calls::depth_text(-1, &mut scratch), None);
+/// ```
+pub fn depth_text(height: i32, scratch: &mut [u8]) -> Option<&str> {
+    let length = unsafe { raw::water_depth_text(height, scratch.as_mut_ptr(), scratch.len()) };
+    let text = &scratch[..length];
+    if text.is_empty() {
+        None
+    } else {
+        Some(std::str::from_utf8(text).expect("a depth text is plain ASCII"))
+    }
+}

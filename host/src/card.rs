@@ -1,0 +1,38 @@
+//! How long a site's lists are, from its card.
+
+use crate::raw::Card;
+
+/// The sheet's bytes before the ground.
+pub const SHEET_HEAD: usize = 19;
+
+impl Card {
+    /// How many cells there are: the length of the ground and of the heights.
+    pub fn cells(&self) -> usize {
+        self.columns as usize * self.rows as usize
+    }
+
+    /// How many faces have an eastward velocity, both walls of each row included.
+    pub fn eastward_faces(&self) -> usize {
+        (self.columns as usize + 1) * self.rows as usize
+    }
+
+    /// How many faces have a northward velocity, both walls of each column included.
+    pub fn northward_faces(&self) -> usize {
+        self.columns as usize * (self.rows as usize + 1)
+    }
+
+    /// How many words a state has: heights, eastward velocities, northward velocities.
+    pub fn state_length(&self) -> usize {
+        self.cells() + self.eastward_faces() + self.northward_faces()
+    }
+
+    /// How many bytes the site's sheet has.
+    ///
+    /// ```
+    /// let card = water::Card { columns: 2, rows: 1, ..Default::default() };
+    /// assert_eq!(card.sheet_size(), 63);
+    /// ```
+    pub fn sheet_size(&self) -> usize {
+        SHEET_HEAD + 4 * (self.cells() + self.state_length())
+    }
+}

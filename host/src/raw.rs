@@ -1,0 +1,140 @@
+//! The library's records and calls as `include/water.h` declares them: the same names, the same layouts, nothing checked.
+//!
+//! Use the safe calls of [`crate::calls`] or a [`crate::Site`]; this module is what they stand on.
+
+/// The site card. Sides are in micrometres, `dt` in milliseconds.
+#[repr(C)]
+#[derive(Clone, Copy, Debug, Default, PartialEq, Eq)]
+pub struct Card {
+    pub columns: u32,
+    pub rows: u32,
+    pub dx: u32,
+    pub dy: u32,
+    pub dt: u32,
+    /// steps wanted
+    pub steps: u32,
+}
+
+/// What a run answers: steps done, the number of the reason it stopped, the greatest height met.
+#[repr(C)]
+#[derive(Clone, Copy, Debug, Default, PartialEq, Eq)]
+pub struct Tally {
+    pub steps: u32,
+    pub reason: u32,
+    pub top: i32,
+}
+
+/// The window that a finger drew: four edges in micrometres. They are never rounded.
+#[repr(C)]
+#[derive(Clone, Copy, Debug, Default, PartialEq)]
+pub struct Window {
+    pub west: f64,
+    pub south: f64,
+    pub east: f64,
+    pub north: f64,
+}
+
+/// A chamber of the register, in micrometres from the south-west corner.
+#[repr(C)]
+#[derive(Clone, Copy, Debug, Default, PartialEq, Eq)]
+pub struct Chamber {
+    pub x: i64,
+    pub y: i64,
+}
+
+/// What a search answers.
+#[repr(C)]
+#[derive(Clone, Copy, Debug, Default, PartialEq, Eq)]
+pub struct Found {
+    pub number: u32,
+    pub count: u32,
+}
+
+/// What the sheet reader answers.
+#[repr(C)]
+#[derive(Clone, Copy, Debug, Default, PartialEq, Eq)]
+pub struct Heard {
+    pub number: u32,
+    pub card: Card,
+}
+
+/// What the sheet writer answers.
+#[repr(C)]
+#[derive(Clone, Copy, Debug, Default, PartialEq, Eq)]
+pub struct Wrote {
+    pub number: u32,
+    pub size: u32,
+}
+
+extern "C" {
+    pub fn water_step(
+        card: Card,
+        ground: *const i32,
+        ground_length: usize,
+        state: *const i32,
+        state_length: usize,
+        next: *mut i32,
+        next_length: usize,
+    ) -> u32;
+
+    pub fn water_run(
+        card: Card,
+        ground: *const i32,
+        ground_length: usize,
+        state: *mut i32,
+        state_length: usize,
+        scratch: *mut i32,
+        scratch_length: usize,
+    ) -> Tally;
+
+    pub fn water_search(
+        card: Card,
+        ground: *const i32,
+        ground_length: usize,
+        state: *const i32,
+        state_length: usize,
+        chambers: *const Chamber,
+        chambers_length: usize,
+        window: Window,
+        depth: i32,
+        found: *mut u32,
+        found_length: usize,
+    ) -> Found;
+
+    pub fn water_search_lists(
+        card: Card,
+        ground: *const i32,
+        ground_length: usize,
+        state: *const i32,
+        state_length: usize,
+        xs: *const i64,
+        xs_length: usize,
+        ys: *const i64,
+        ys_length: usize,
+        window: Window,
+        depth: i32,
+        found: *mut u32,
+        found_length: usize,
+    ) -> Found;
+
+    pub fn water_read_sheet(
+        sheet: *const u8,
+        sheet_length: usize,
+        ground: *mut i32,
+        ground_length: usize,
+        state: *mut i32,
+        state_length: usize,
+    ) -> Heard;
+
+    pub fn water_write_sheet(
+        card: Card,
+        ground: *const i32,
+        ground_length: usize,
+        state: *const i32,
+        state_length: usize,
+        bytes: *mut u8,
+        bytes_length: usize,
+    ) -> Wrote;
+
+    pub fn water_depth_text(height: i32, scratch: *mut u8, scratch_length: usize) -> usize;
+}

@@ -1,0 +1,78 @@
+//! Why a call refused: document 01's numbers as an enum.
+
+use std::fmt;
+
+/// A refusal, by the number that document 01 gives it ([`Refusal::number`]).
+#[derive(Clone, Copy, Debug, PartialEq, Eq)]
+pub enum Refusal {
+    /// 1: columns, rows, a side, dt or steps wanted outside its range
+    Card,
+    /// 2: a lent list has the wrong length, or there are over 1,000 chambers
+    Length,
+    /// 3: a value outside its range, a wall velocity not 0, or a window edge not finite
+    Value,
+    /// 4: some cell breaks the step limit
+    StepLimit,
+    /// 5: some new height exceeds 50,000,000
+    TooHigh,
+    /// 6: some own share is negative
+    OwnShare,
+    /// 7: some new velocity lies outside its range
+    TooFast,
+    /// 8: the lent room is too short, and how much is needed
+    Room { needed: usize },
+    /// 9: not a sheet of version 1, or its length field is not the bytes given
+    Sheet,
+}
+
+impl Refusal {
+    /// Document 01's number.
+    pub fn number(self) -> u32 {
+        match self {
+            Refusal::Card => 1,
+            Refusal::Length => 2,
+            Refusal::Value => 3,
+            Refusal::StepLimit => 4,
+            Refusal::TooHigh => 5,
+            Refusal::OwnShare => 6,
+            Refusal::TooFast => 7,
+            Refusal::Room { .. } => 8,
+            Refusal::Sheet => 9,
+        }
+    }
+
+    /// The refusal that a call's number stands for; none for 0, done. `needed` is the room that an 8 asks for.
+    pub(crate) fn of(number: u32, needed: usize) -> Option<Refusal> {
+        match number {
+            0 => None,
+            1 => Some(Refusal::Card),
+            2 => Some(Refusal::Length),
+            3 => Some(Refusal::Value),
+            4 => Some(Refusal::StepLimit),
+            5 => Some(Refusal::TooHigh),
+            6 => Some(Refusal::OwnShare),
+            7 => Some(Refusal::TooFast),
+            8 => Some(Refusal::Room { needed }),
+            9 => Some(Refusal::Sheet),
+            _ => unreachable!("the library gives 0 to 9, and gave {number}"),
+        }
+    }
+}
+
+impl fmt::Display for Refusal {
+    fn fmt(&self, f: &mut fmt::Formatter<'_>) -> fmt::Result {
+        match self {
+            Refusal::Card => f.write_str("columns, rows, a side, dt or steps outside its range (1)"),
+            Refusal::Length => f.write_str("a list of the wrong length, or over 1,000 chambers (2)"),
+            Refusal::Value => f.write_str("a value outside its range, a wall velocity not 0, or a window edge not finite (3)"),
+            Refusal::StepLimit => f.write_str("some cell breaks the step limit (4)"),
+            Refusal::TooHigh => f.write_str("some new height exceeds 50,000,000 (5)"),
+            Refusal::OwnShare => f.write_str("some own share is negative (6)"),
+            Refusal::TooFast => f.write_str("some new velocity lies outside its range (7)"),
+            Refusal::Room { needed } => write!(f, "the lent room is too short, {needed} places are needed (8)"),
+            Refusal::Sheet => f.write_str("not a sheet of version 1, or its length field is not the bytes given (9)"),
+        }
+    }
+}
+
+impl std::error::Error for Refusal {}

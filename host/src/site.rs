@@ -1,0 +1,223 @@
+//! A site that owns its lists.
+
+use crate::calls::{self, Tally};
+use crate::card::SHEET_HEAD;
+use crate::raw::{Card, Chamber, Window};
+use crate::refusal::Refusal;
+use std::ops::ControlFlow;
+
+/// A site that passes the first three checks: its card, its ground and the state it is in.
+///
+/// ```
+/// use water::{Card, Site};
+/// let card = Card { columns: 2, rows: 1, dx: 1_000_000, dy: 1_000_000, dt: 100, steps: 2 };
+/// let mut site = Site::still(card, vec![0, 0], &[2_000_000, 1_000_000])?;
+/// let tally = site.run();
+/// assert_eq!((tally.steps, tally.reason, tally.top), (2, None, 2_000_000));
+/// assert_eq!(site.heights(), [1_803_867, 1_196_133]);
+/// assert_eq!(site.depth_text(0, 0), "180 cm");
+/// # Ok::<(), water::Refusal>(())
+/// ```
+#[derive(Clone, Debug, PartialEq, Eq)]
+pub struct Site {
+    card: Card,
+    ground: Vec<i32>,
+    state: Vec<i32>,
+    // as long as the state: a step's next state, a run's scratch
+    spare: Vec<i32>,
+}
+
+impl Site {
+    /// A site with the given state. Refused where the card, a length or a value is wrong.
+    ///
+    /// ```
+    /// use water::{Card, Refusal, Site};
+    /// let card = Card { columns: 1, rows: 1, dx: 1_000_000, dy: 1_000_000, dt: 100, steps: 0 };
+    /// assert!(Site::new(card, vec![0], vec![7, 0, 0, 0, 0]).is_ok());
+    /// assert_eq!(Site::new(card, vec![0], vec![7, 0, 0, 0, 1]), Err(Refusal::Value)); // a wall that moves
+    /// assert_eq!(Site::new(card, vec![0], vec![7]), Err(Refusal::Length));
+    /// assert_eq!(Site::new(Card { columns: 129, ..card }, vec![0], vec![7]), Err(Refusal::Card));
+    /// ```
+    pub fn new(card: Card, ground: Vec<i32>, state: Vec<i32>) -> Result<Site, Refusal> {
+        check(card, &ground, &state)?;
+        let spare = vec![0; state.len()];
+        Ok(Site { card, ground, state, spare })
+    }
+
+    /// A site whose water does not move yet.
+    pub fn still(card: Card, ground: Vec<i32>, heights: &[i32]) -> Result<Site, Refusal> {
+        // a card out of range is refused before its sizes are believed
+        if let Err(Refusal::Card) = check(card, &ground, heights) {
+            return Err(Refusal::Card);
+        }
+        let mut state = heights.to_vec();
+        state.resize(heights.len() + card.eastward_faces() + card.northward_faces(), 0);
+        Site::new(card, ground, state)
+    }
+
+    /// The site of a sheet.
+    ///
+    /// ```
+    /// # use water::{Card, Refusal, Site};
+    /// # let card = Card { columns: 2, rows: 1, dx: 1_000_000, dy: 1_000_000, dt: 100, steps: 2 };
+    /// let site = Site::still(card, vec![0, 0], &[2_000_000, 1_000_000])?;
+    /// let sheet = site.write_sheet();
+    /// assert_eq!(sheet.len(), 63);
+    /// assert_eq!(Site::read_sheet(&sheet)?, site);
+    /// assert_eq!(Site::read_sheet(&sheet[1..]), Err(Refusal::Sheet));
+    /// # Ok::<(), Refusal>(())
+    /// ```
+    pub fn read_sheet(sheet: &[u8]) -> Result<Site, Refusal> {
+        // the header's size decides how long the lists are; a sheet too short for one is refused with 9 whatever is lent
+        let size = |place: usize| if sheet.len() < SHEET_HEAD { 0 } else { u32::from(sheet[place]) };
+        let sizes = Card { columns: size(5), rows: size(6), ..Card::default() };
+        let mut ground = vec![0; sizes.cells()];
+        let mut state = vec![0; sizes.state_length()];
+        let card = calls::read_sheet(sheet, &mut ground, &mut state)?;
+        let spare = vec![0; state.len()];
+        Ok(Site { card, ground, state, spare })
+    }
+
+    /// The site's sheet.
+    pub fn write_sheet(&self) -> Vec<u8> {
+        let mut bytes = vec![0; self.card.sheet_size()];
+        calls::write_sheet(self.card, &self.ground, &self.state, &mut bytes).expect("a site is right, and has room");
+        bytes
+    }
+
+    /// One step. Refused, the site is as it was.
+    ///
+    /// ```
+    /// # use water::{Card, Refusal, Site};
+    /// # let card = Card { columns: 2, rows: 1, dx: 1_000_000, dy: 1_000_000, dt: 100, steps: 2 };
+    /// let mut site = Site::new(card, vec![0, 0], vec![2_000_000, 1_000_000, 0, 10_000_001, 0, 0, 0, 0, 0])?;
+    /// assert_eq!(site.step(), Err(Refusal::StepLimit));
+    /// assert_eq!(site.heights(), [2_000_000, 1_000_000]);
+    /// # Ok::<(), Refusal>(())
+    /// ```
+    pub fn step(&mut self) -> Result<(), Refusal> {
+        calls::step(self.card, &self.ground, &self.state, &mut self.spare)?;
+        std::mem::swap(&mut self.state, &mut self.spare);
+        Ok(())
+    }
+
+    /// As many steps as the card wants.
+    pub fn run(&mut self) -> Tally {
+        calls::run(self.card, &self.ground, &mut self.state, &mut self.spare)
+    }
+
+    /// As many steps as the card wants, at most `slice` at a time, with a look at the site and the tally so far after each slice
+    /// that did all its steps. The look may break the run off. A run that is not broken off ends as [`Site::run`] does, to the
+    /// last micrometre.
+    ///
+    /// ```
+    /// use std::ops::ControlFlow;
+    /// # use water::{Card, Refusal, Site};
+    /// let card = Card { columns: 2, rows: 1, dx: 1_000_000, dy: 1_000_000, dt: 100, steps: 25 };
+    /// let mut whole = Site::still(card, vec![0, 0], &[2_000_000, 1_000_000])?;
+    /// let mut sliced = whole.clone();
+    /// let mut shown = Vec::new();
+    /// let tally = sliced.run_in_slices(10, |site, tally| {
+    ///     shown.push((tally.steps, site.height(0, 0)));
+    ///     ControlFlow::Continue(())
+    /// });
+    /// assert_eq!(tally, whole.run());
+    /// assert_eq!(sliced, whole);
+    /// assert_eq!(shown.len(), 3); // after 10, 20 and 25 steps
+    /// # Ok::<(), Refusal>(())
+    /// ```
+    ///
+    /// # Panics
+    ///
+    /// If `slice` is 0.
+    pub fn run_in_slices(&mut self, slice: u32, mut look: impl FnMut(&Site, &Tally) -> ControlFlow<()>) -> Tally {
+        assert!(slice > 0, "a slice has at least one step");
+        let mut tally = self.run_steps(0);
+        while tally.steps < self.card.steps {
+            let part = self.run_steps(slice.min(self.card.steps - tally.steps));
+            tally = Tally { steps: tally.steps + part.steps, reason: part.reason, top: tally.top.max(part.top) };
+            if tally.reason.is_some() || look(self, &tally).is_break() {
+                break;
+            }
+        }
+        tally
+    }
+
+    fn run_steps(&mut self, steps: u32) -> Tally {
+        calls::run(Card { steps, ..self.card }, &self.ground, &mut self.state, &mut self.spare)
+    }
+
+    /// The places in the register, rising, of the chambers inside the window whose cell is at least `depth` deep.
+    ///
+    /// ```
+    /// # use water::{Card, Chamber, Refusal, Site, Window};
+    /// # let card = Card { columns: 2, rows: 1, dx: 1_000_000, dy: 1_000_000, dt: 100, steps: 2 };
+    /// let site = Site::still(card, vec![0, 0], &[2_000_000, 1_000_000])?;
+    /// let register = [Chamber { x: 500_000, y: 500_000 }, Chamber { x: 1_000_000, y: 500_000 }];
+    /// let window = Window { west: 0.0, south: 0.0, east: 1_000_000.0, north: 1_000_000.0 };
+    /// assert_eq!(site.search(&register, window, 1_000_000)?, [0, 1]);
+    /// assert_eq!(site.search(&register, window, 1_000_001)?, [0]);
+    /// assert_eq!(site.search(&register, Window { west: 1_000_000.25, ..window }, 0)?, []);
+    /// assert_eq!(site.search(&register, Window { west: f64::NAN, ..window }, 0), Err(Refusal::Value));
+    /// # Ok::<(), Refusal>(())
+    /// ```
+    pub fn search(&self, chambers: &[Chamber], window: Window, depth: i32) -> Result<Vec<u32>, Refusal> {
+        let mut found = vec![0; chambers.len()];
+        let count = calls::search(self.card, &self.ground, &self.state, chambers, window, depth, &mut found)?;
+        found.truncate(count);
+        Ok(found)
+    }
+
+    /// The same search over a register kept as two lists.
+    pub fn search_lists(&self, xs: &[i64], ys: &[i64], window: Window, depth: i32) -> Result<Vec<u32>, Refusal> {
+        let mut found = vec![0; xs.len()];
+        let count = calls::search_lists(self.card, &self.ground, &self.state, xs, ys, window, depth, &mut found)?;
+        found.truncate(count);
+        Ok(found)
+    }
+
+    pub fn card(&self) -> Card {
+        self.card
+    }
+
+    pub fn ground(&self) -> &[i32] {
+        &self.ground
+    }
+
+    /// The whole state: heights, eastward velocities, northward velocities.
+    pub fn state(&self) -> &[i32] {
+        &self.state
+    }
+
+    pub fn heights(&self) -> &[i32] {
+        &self.state[..self.card.cells()]
+    }
+
+    pub fn eastward(&self) -> &[i32] {
+        &self.state[self.card.cells()..][..self.card.eastward_faces()]
+    }
+
+    pub fn northward(&self) -> &[i32] {
+        &self.state[self.card.cells() + self.card.eastward_faces()..]
+    }
+
+    /// The height of the cell in a column, counted from the west, and a row, counted from the south.
+    pub fn height(&self, column: u32, row: u32) -> i32 {
+        assert!(column < self.card.columns, "column {column} of {}", self.card.columns);
+        self.state[row as usize * self.card.columns as usize + column as usize]
+    }
+
+    /// The depth text of one cell.
+    pub fn depth_text(&self, column: u32, row: u32) -> String {
+        calls::depth_text(self.height(column, row), &mut [0; 7]).expect("a kept height has a text").to_string()
+    }
+}
+
+/// The first three checks alone: a sheet written to no room at all gets as far as 8 exactly where they pass.
+fn check(card: Card, ground: &[i32], state: &[i32]) -> Result<(), Refusal> {
+    match calls::write_sheet(card, ground, state, &mut []) {
+        Err(Refusal::Room { .. }) => Ok(()),
+        Err(refusal) => Err(refusal),
+        Ok(_) => unreachable!("no sheet fits no room"),
+    }
+}

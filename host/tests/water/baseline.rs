@@ -1,0 +1,67 @@
+//! The benchmark's plain Rust held to the model, so that the ratio compares the same work, refusals and all.
+
+#[path = "../../src/bin/bench/plain/mod.rs"]
+mod plain;
+
+use crate::given::Given;
+use crate::lent::room;
+use crate::model;
+use crate::trials::trials;
+use crate::wild;
+use water::raw::{Chamber, Window};
+
+#[test]
+fn steps_and_runs() {
+    let mut given = Given::default();
+    let mut plain = plain::Plain::new();
+    trials("plain steps", 6_000, |rng| {
+        let site = wild::any(rng);
+        let mut next = room(rng, site.state.len());
+        let mut expected = next.clone();
+        let number = plain.step(site.card, &site.ground, &site.state, &mut next);
+        assert_eq!(number, model::step(site.card, &site.ground, &site.state, &mut expected));
+        assert!(next == expected);
+        given.count(number);
+        let (mut state, mut scratch) = (site.state.clone(), room(rng, site.state.len()));
+        let (mut expected, mut expected_scratch) = (site.state.clone(), scratch.clone());
+        let tally = plain.run(site.card, &site.ground, &mut state, &mut scratch);
+        assert_eq!(tally, model::run(site.card, &site.ground, &mut expected, &mut expected_scratch));
+        assert!(state == expected && scratch == expected_scratch);
+    });
+    given.assert_often("plain steps", &[0, 1, 2, 3, 4, 5, 7], 60);
+}
+
+#[test]
+fn searches_and_sheets() {
+    trials("plain searches", 3_000, |rng| {
+        let site = wild::any(rng);
+        let width = i64::from(site.card.dx.min(20_000_001)) * i64::from(site.card.columns.min(129));
+        let chambers: Vec<Chamber> =
+            (0..rng.below(20)).map(|_| Chamber { x: rng.between(0, width), y: rng.between(-1, 400_000) }).collect();
+        let edge = |rng: &mut crate::rng::Rng| rng.between(-1, width) as f64 + rng.pick(&[0.0, 0.5, f64::NAN]);
+        let window = Window { west: 0.0, south: -1.0, east: edge(rng), north: 1e9 };
+        let (depth, room) = (rng.pick(&[0, 1, 1_000_000, -1]), rng.below(20) as usize);
+        let (xs, ys): (Vec<i64>, Vec<i64>) = chambers.iter().map(|chamber| (chamber.x, chamber.y)).unzip();
+        let (mut found, mut lists, mut expected) = (vec![7; room], vec![7; room], vec![7; room]);
+        let answer = model::search(site.card, &site.ground, &site.state, &chambers, window, depth, &mut expected);
+        assert_eq!(plain::search(site.card, &site.ground, &site.state, &chambers, window, depth, &mut found), answer);
+        assert_eq!(plain::search_lists(site.card, &site.ground, &site.state, &xs, &ys, window, depth, &mut lists), answer);
+        assert!(found == expected && lists == expected);
+
+        let bytes = rng.between(0, 3_000) as usize;
+        let (mut sheet, mut expected) = (vec![7; bytes], vec![7; bytes]);
+        let wrote = plain::write_sheet(site.card, &site.ground, &site.state, &mut sheet);
+        assert_eq!(wrote, model::write_sheet(site.card, &site.ground, &site.state, &mut expected));
+        assert!(sheet == expected);
+        sheet.truncate(wrote.size as usize);
+        if !sheet.is_empty() && rng.percent(50) {
+            let place = rng.below(sheet.len() as u64) as usize;
+            sheet[place] ^= 1 << rng.below(8);
+        }
+        let lists = (vec![1; site.ground.len()], vec![2; site.state.len()]);
+        let (mut ours, mut expected) = (lists.clone(), lists);
+        let heard = plain::read_sheet(&sheet, &mut ours.0, &mut ours.1);
+        assert_eq!(heard, model::read_sheet(&sheet, &mut expected.0, &mut expected.1));
+        assert!(ours == expected);
+    });
+}

@@ -1,0 +1,121 @@
+//! Document 002's scheme (7b) to (7d) on doubles, in the units of document 01.
+
+use water::raw::Card;
+
+/// Standard gravity in µm/s².
+pub const GRAVITY: f64 = 9_806_650.0;
+
+/// A state in doubles. Faces are numbered as in document 01; columns first, then rows.
+#[derive(Clone)]
+pub struct Water {
+    columns: usize,
+    rows: usize,
+    pub heights: Vec<f64>,
+    pub east: Vec<f64>,
+    pub north: Vec<f64>,
+}
+
+impl Water {
+    pub fn of(card: &Card, state: &[i32]) -> Water {
+        let doubles: Vec<f64> = state.iter().map(|&word| f64::from(word)).collect();
+        let (columns, rows) = (card.columns as usize, card.rows as usize);
+        let (heights, velocities) = doubles.split_at(columns * rows);
+        let (east, north) = velocities.split_at((columns + 1) * rows);
+        Water { columns, rows, heights: heights.to_vec(), east: east.to_vec(), north: north.to_vec() }
+    }
+
+    fn height(&self, i: usize, j: usize) -> f64 {
+        self.heights[j * self.columns + i]
+    }
+
+    fn east(&self, i: usize, j: usize) -> f64 {
+        self.east[j * (self.columns + 1) + i]
+    }
+
+    fn north(&self, i: usize, j: usize) -> f64 {
+        self.north[j * self.columns + i]
+    }
+}
+
+/// Mass flux over each face during dt, divided by the cell's area: (10) with its upwind choice.
+fn fluxes(card: &Card, water: &Water) -> (Vec<f64>, Vec<f64>) {
+    let seconds = f64::from(card.dt) / 1_000.0;
+    let upwind = |u: f64, k: f64, l: f64| if u > 0.0 { k } else { l };
+    let (columns, rows) = (water.columns, water.rows);
+    let mut east = vec![0.0; water.east.len()];
+    let mut north = vec![0.0; water.north.len()];
+    for j in 0..rows {
+        for i in 1..columns {
+            let u = water.east(i, j);
+            east[j * (columns + 1) + i] =
+                upwind(u, water.height(i - 1, j), water.height(i, j)) * u * seconds / f64::from(card.dx);
+        }
+    }
+    for j in 1..rows {
+        for i in 0..columns {
+            let u = water.north(i, j);
+            north[j * columns + i] = upwind(u, water.height(i, j - 1), water.height(i, j)) * u * seconds / f64::from(card.dy);
+        }
+    }
+    (east, north)
+}
+
+/// (7d) for one face: the momentum that is there and that comes in, less what goes out, over the new mass, less the surface's slope.
+/// A flow over a dual edge is positive out of the face's cell; what goes out carries u, what comes in the neighbour's velocity.
+fn new_velocity(u: f64, old_sum: f64, new_sum: f64, flows: [(f64, f64); 4], slope: f64) -> f64 {
+    if new_sum == 0.0 {
+        return 0.0;
+    }
+    let momentum = flows.iter().fold(old_sum * u, |sum, &(out, beyond)| sum - out * if out > 0.0 { u } else { beyond });
+    momentum / new_sum - slope
+}
+
+/// One step.
+pub fn step(card: &Card, ground: &[i32], water: &Water) -> Water {
+    let (columns, rows) = (water.columns, water.rows);
+    let seconds = f64::from(card.dt) / 1_000.0;
+    let (east, north) = fluxes(card, water);
+    let east_at = |i: usize, j: usize| east[j * (columns + 1) + i];
+    let north_at = |i: usize, j: usize| north[j * columns + i];
+    let mut next = water.clone();
+    // (7b)
+    for j in 0..rows {
+        for i in 0..columns {
+            next.heights[j * columns + i] += east_at(i, j) - east_at(i + 1, j) + north_at(i, j) - north_at(i, j + 1);
+        }
+    }
+    let surface = |i: usize, j: usize| next.heights[j * columns + i] + f64::from(ground[j * columns + i]);
+    let new_sum = |a: usize, b: usize| next.heights[a] + next.heights[b];
+    let (mut new_east, mut new_north) = (water.east.clone(), water.north.clone());
+    for j in 0..rows {
+        for i in 1..columns {
+            let mass = new_sum(j * columns + i - 1, j * columns + i);
+            let beside = |row: usize| if row < rows { water.east(i, row) } else { 0.0 };
+            let flows = [
+                (east_at(i, j) + east_at(i + 1, j), water.east(i + 1, j)),
+                (-(east_at(i, j) + east_at(i - 1, j)), water.east(i - 1, j)),
+                (north_at(i - 1, j + 1) + north_at(i, j + 1), beside(j + 1)),
+                (-(north_at(i - 1, j) + north_at(i, j)), beside(j.wrapping_sub(1))),
+            ];
+            let slope = GRAVITY * seconds * (surface(i, j) - surface(i - 1, j)) / f64::from(card.dx);
+            let old_sum = water.height(i - 1, j) + water.height(i, j);
+            new_east[j * (columns + 1) + i] = new_velocity(water.east(i, j), old_sum, mass, flows, slope);
+        }
+    }
+    for j in 1..rows {
+        for i in 0..columns {
+            let mass = new_sum((j - 1) * columns + i, j * columns + i);
+            let beside = |column: usize| if column < columns { water.north(column, j) } else { 0.0 };
+            let flows = [
+                (north_at(i, j) + north_at(i, j + 1), water.north(i, j + 1)),
+                (-(north_at(i, j) + north_at(i, j - 1)), water.north(i, j - 1)),
+                (east_at(i + 1, j - 1) + east_at(i + 1, j), beside(i + 1)),
+                (-(east_at(i, j - 1) + east_at(i, j)), beside(i.wrapping_sub(1))),
+            ];
+            let slope = GRAVITY * seconds * (surface(i, j) - surface(i, j - 1)) / f64::from(card.dy);
+            let old_sum = water.height(i, j - 1) + water.height(i, j);
+            new_north[j * columns + i] = new_velocity(water.north(i, j), old_sum, mass, flows, slope);
+        }
+    }
+    Water { east: new_east, north: new_north, ..next }
+}

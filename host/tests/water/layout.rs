@@ -1,0 +1,31 @@
+//! Sizes and offsets of the records, as include/water.h has them; host/c/numbers.c holds C's to the same table. That the library
+//! reads and writes each field at its place is seen wherever a test compares records whose fields all differ.
+
+use std::mem::{align_of, size_of};
+use water::raw::{Card, Chamber, Found, Heard, Tally, Window, Wrote};
+
+macro_rules! offsets {
+    ($record:ty: $($field:ident)*) => {{
+        let record = <$record>::default();
+        let base = &record as *const $record as usize;
+        vec![$(&record.$field as *const _ as usize - base),*]
+    }};
+}
+
+#[test]
+fn records_are_laid_out_as_in_the_header() {
+    assert_eq!((size_of::<Card>(), align_of::<Card>()), (24, 4));
+    assert_eq!(offsets!(Card: columns rows dx dy dt steps), [0, 4, 8, 12, 16, 20]);
+    assert_eq!((size_of::<Tally>(), align_of::<Tally>()), (12, 4));
+    assert_eq!(offsets!(Tally: steps reason top), [0, 4, 8]);
+    assert_eq!((size_of::<Window>(), align_of::<Window>()), (32, 8));
+    assert_eq!(offsets!(Window: west south east north), [0, 8, 16, 24]);
+    assert_eq!((size_of::<Chamber>(), align_of::<Chamber>()), (16, 8));
+    assert_eq!(offsets!(Chamber: x y), [0, 8]);
+    assert_eq!((size_of::<Found>(), align_of::<Found>()), (8, 4));
+    assert_eq!(offsets!(Found: number count), [0, 4]);
+    assert_eq!((size_of::<Heard>(), align_of::<Heard>()), (28, 4));
+    assert_eq!(offsets!(Heard: number card), [0, 4]);
+    assert_eq!((size_of::<Wrote>(), align_of::<Wrote>()), (8, 4));
+    assert_eq!(offsets!(Wrote: number size), [0, 4]);
+}

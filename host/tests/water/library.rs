@@ -1,0 +1,128 @@
+//! Each call of the library on fenced lists, beside the model: both get the same input, and every answer, every element of every
+//! lent list and all memory beside them is compared. Each function returns the answer that both gave.
+
+use crate::lent::Lent;
+use crate::model;
+use crate::rng::Rng;
+use water::raw::{self, Card, Chamber, Found, Heard, Tally, Window, Wrote};
+
+pub fn step(rng: &mut Rng, card: Card, ground: &[i32], state: &[i32], next: &mut [i32]) -> u32 {
+    let (g, s, n) = (Lent::new(rng, "ground", ground), Lent::new(rng, "state", state), Lent::new(rng, "next", next));
+    let number = unsafe { raw::water_step(card, g.pointer(), g.length(), s.pointer(), s.length(), n.pointer(), n.length()) };
+    let expected = model::step(card, ground, state, next);
+    assert_eq!(number, expected, "step of {card:?}");
+    g.assert_holds(ground);
+    s.assert_holds(state);
+    n.assert_holds(next);
+    number
+}
+
+pub fn run(rng: &mut Rng, card: Card, ground: &[i32], state: &mut [i32], scratch: &mut [i32]) -> Tally {
+    let (g, s, t) = (Lent::new(rng, "ground", ground), Lent::new(rng, "state", state), Lent::new(rng, "scratch", scratch));
+    let tally = unsafe { raw::water_run(card, g.pointer(), g.length(), s.pointer(), s.length(), t.pointer(), t.length()) };
+    let expected = model::run(card, ground, state, scratch);
+    assert_eq!(tally, expected, "run of {card:?}");
+    g.assert_holds(ground);
+    s.assert_holds(state);
+    t.assert_holds(scratch);
+    tally
+}
+
+/// A question to the search: a site, a window, a depth.
+#[derive(Clone, Copy, Debug)]
+pub struct Question<'a> {
+    pub card: Card,
+    pub ground: &'a [i32],
+    pub state: &'a [i32],
+    pub window: Window,
+    pub depth: i32,
+}
+
+pub fn search(rng: &mut Rng, q: Question, chambers: &[Chamber], found: &mut [u32]) -> Found {
+    let (g, s) = (Lent::new(rng, "ground", q.ground), Lent::new(rng, "state", q.state));
+    let (c, f) = (Lent::new(rng, "chambers", chambers), Lent::new(rng, "found", found));
+    let answer = unsafe {
+        raw::water_search(
+            q.card,
+            g.pointer(),
+            g.length(),
+            s.pointer(),
+            s.length(),
+            c.pointer(),
+            c.length(),
+            q.window,
+            q.depth,
+            f.pointer(),
+            f.length(),
+        )
+    };
+    let expected = model::search(q.card, q.ground, q.state, chambers, q.window, q.depth, found);
+    assert_eq!(answer, expected, "search of {:?} by {:?} and depth {}", q.card, q.window, q.depth);
+    g.assert_holds(q.ground);
+    s.assert_holds(q.state);
+    c.assert_holds(chambers);
+    f.assert_holds(found);
+    answer
+}
+
+pub fn search_lists(rng: &mut Rng, q: Question, xs: &[i64], ys: &[i64], found: &mut [u32]) -> Found {
+    let (g, s) = (Lent::new(rng, "ground", q.ground), Lent::new(rng, "state", q.state));
+    let (x, y, f) = (Lent::new(rng, "xs", xs), Lent::new(rng, "ys", ys), Lent::new(rng, "found", found));
+    let answer = unsafe {
+        raw::water_search_lists(
+            q.card,
+            g.pointer(),
+            g.length(),
+            s.pointer(),
+            s.length(),
+            x.pointer(),
+            x.length(),
+            y.pointer(),
+            y.length(),
+            q.window,
+            q.depth,
+            f.pointer(),
+            f.length(),
+        )
+    };
+    let expected = model::search_lists(q.card, q.ground, q.state, xs, ys, q.window, q.depth, found);
+    assert_eq!(answer, expected, "search of lists, {:?} by {:?} and depth {}", q.card, q.window, q.depth);
+    g.assert_holds(q.ground);
+    s.assert_holds(q.state);
+    x.assert_holds(xs);
+    y.assert_holds(ys);
+    f.assert_holds(found);
+    answer
+}
+
+pub fn read_sheet(rng: &mut Rng, sheet: &[u8], ground: &mut [i32], state: &mut [i32]) -> Heard {
+    let (b, g, s) = (Lent::new(rng, "sheet", sheet), Lent::new(rng, "ground", ground), Lent::new(rng, "state", state));
+    let heard = unsafe { raw::water_read_sheet(b.pointer(), b.length(), g.pointer(), g.length(), s.pointer(), s.length()) };
+    let expected = model::read_sheet(sheet, ground, state);
+    assert_eq!(heard, expected, "reading a sheet of {} bytes", sheet.len());
+    b.assert_holds(sheet);
+    g.assert_holds(ground);
+    s.assert_holds(state);
+    heard
+}
+
+pub fn write_sheet(rng: &mut Rng, card: Card, ground: &[i32], state: &[i32], bytes: &mut [u8]) -> Wrote {
+    let (g, s, b) = (Lent::new(rng, "ground", ground), Lent::new(rng, "state", state), Lent::new(rng, "bytes", bytes));
+    let wrote =
+        unsafe { raw::water_write_sheet(card, g.pointer(), g.length(), s.pointer(), s.length(), b.pointer(), b.length()) };
+    let expected = model::write_sheet(card, ground, state, bytes);
+    assert_eq!(wrote, expected, "writing the sheet of {card:?}");
+    g.assert_holds(ground);
+    s.assert_holds(state);
+    b.assert_holds(bytes);
+    wrote
+}
+
+pub fn depth_text(rng: &mut Rng, height: i32, scratch: &mut [u8]) -> usize {
+    let t = Lent::new(rng, "scratch", scratch);
+    let length = unsafe { raw::water_depth_text(height, t.pointer(), t.length()) };
+    let expected = model::depth_text(height, scratch);
+    assert_eq!(length, expected, "depth text of {height} in {} bytes", scratch.len());
+    t.assert_holds(scratch);
+    length
+}

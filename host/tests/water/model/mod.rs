@@ -1,0 +1,23 @@
+//! Document 01 said a second time: the whole product as plain Rust, slow and literal, written from the document alone.
+//!
+//! Each call here has the library's shape: it takes the lists as they are lent, leaves in them what the document says, and returns
+//! what the document says. Numbers are i128, so that no formula can overflow; the tests compare every answer and every element.
+
+mod grid;
+mod play;
+mod run;
+mod search;
+mod sheet;
+mod site;
+mod step;
+mod text;
+mod turn;
+
+pub use play::play;
+pub use run::run;
+pub use search::{search, search_lists};
+pub use sheet::{read_sheet, sheet_size, write_sheet};
+pub use site::{cells, check, state_length, Site};
+pub use step::{step, transfer, within_step_limit};
+pub use text::depth_text;
+pub use turn::{Turn, TURNS};

@@ -1,0 +1,202 @@
+//! "One step": transfers first, then heights, then velocities, which use old transfers and new heights.
+
+use super::grid::Grid;
+use super::site::{check_with, Site, HEIGHTS, VELOCITIES};
+use water::raw::Card;
+
+/// Standard gravity in µm/s².
+const GRAVITY: i128 = 9_806_650;
+
+/// T has the sign of u and the size floor(h·|u|·dt / (1000·d)), h being K's old height if u > 0, L's if u < 0.
+pub fn transfer(dt: u32, d: u32, height_k: i128, height_l: i128, u: i128) -> i128 {
+    let height = if u > 0 { height_k } else { height_l };
+    // nothing in the quotient is below 0, so that it is the floor
+    u.signum() * (height * u.abs() * i128::from(dt) / (1_000 * i128::from(d)))
+}
+
+/// Step limit: dt·((|west|+|east|)·dy + (|south|+|north|)·dx) ≤ 1000·dx·dy.
+pub fn within_step_limit(site: &Site, i: usize, j: usize) -> bool {
+    let Card { dx, dy, dt, .. } = site.card;
+    let (dx, dy, dt) = (i128::from(dx), i128::from(dy), i128::from(dt));
+    let west_east = site.east(i, j).abs() + site.east(i + 1, j).abs();
+    let south_north = site.north(i, j).abs() + site.north(i, j + 1).abs();
+    dt * (west_east * dy + south_north * dx) <= 1_000 * dx * dy
+}
+
+/// A site with what crosses each of its faces in one step, and the heights after it.
+struct Moving<'a> {
+    site: Site<'a>,
+    east: Grid,
+    north: Grid,
+    new_heights: Grid,
+}
+
+impl Moving<'_> {
+    fn of<'a>(site: &Site<'a>) -> Moving<'a> {
+        let Card { dx, dy, dt, .. } = site.card;
+        let (columns, rows) = (site.columns(), site.rows());
+        // T = 0 on walls
+        let east = Grid::of(columns + 1, rows, |i, j| match i {
+            0 => 0,
+            wall if wall == columns => 0,
+            _ => transfer(dt, dx, site.height(i - 1, j), site.height(i, j), site.east(i, j)),
+        });
+        let north = Grid::of(columns, rows + 1, |i, j| match j {
+            0 => 0,
+            wall if wall == rows => 0,
+            _ => transfer(dt, dy, site.height(i, j - 1), site.height(i, j), site.north(i, j)),
+        });
+        // the old one, less T out, plus T in, over four faces
+        let new_heights = Grid::of(columns, rows, |i, j| {
+            site.height(i, j) + east.at(i, j) - east.at(i + 1, j) + north.at(i, j) - north.at(i, j + 1)
+        });
+        Moving { site: *site, east, north, new_heights }
+    }
+
+    fn new_surface(&self, i: usize, j: usize) -> i128 {
+        self.new_heights.at(i, j) + self.site.ground(i, j)
+    }
+
+    /// The inner eastward face i of row j: K is cell (i − 1, j), L is cell (i, j).
+    fn east_face(&self, i: usize, j: usize) -> Face {
+        let Moving { site, east, north, new_heights } = self;
+        Face {
+            dt: site.card.dt,
+            d: site.card.dx,
+            u: site.east(i, j),
+            old_sum: site.height(i - 1, j) + site.height(i, j),
+            new_sum: new_heights.at(i - 1, j) + new_heights.at(i, j),
+            rise: self.new_surface(i, j) - self.new_surface(i - 1, j),
+            edges: [
+                Edge { out: east.at(i, j) + east.at(i + 1, j), beyond: site.east(i + 1, j) },
+                Edge { out: -(east.at(i, j) + east.at(i - 1, j)), beyond: site.east(i - 1, j) },
+                Edge {
+                    out: north.at(i - 1, j + 1) + north.at(i, j + 1),
+                    beyond: if j + 1 < site.rows() { site.east(i, j + 1) } else { 0 },
+                },
+                Edge { out: -(north.at(i - 1, j) + north.at(i, j)), beyond: if j > 0 { site.east(i, j - 1) } else { 0 } },
+            ],
+        }
+    }
+
+    /// The inner northward face j of column i: K is cell (i, j − 1), L is cell (i, j).
+    fn north_face(&self, i: usize, j: usize) -> Face {
+        let Moving { site, east, north, new_heights } = self;
+        Face {
+            dt: site.card.dt,
+            d: site.card.dy,
+            u: site.north(i, j),
+            old_sum: site.height(i, j - 1) + site.height(i, j),
+            new_sum: new_heights.at(i, j - 1) + new_heights.at(i, j),
+            rise: self.new_surface(i, j) - self.new_surface(i, j - 1),
+            edges: [
+                Edge { out: north.at(i, j) + north.at(i, j + 1), beyond: site.north(i, j + 1) },
+                Edge { out: -(north.at(i, j) + north.at(i, j - 1)), beyond: site.north(i, j - 1) },
+                Edge {
+                    out: east.at(i + 1, j - 1) + east.at(i + 1, j),
+                    beyond: if i + 1 < site.columns() { site.north(i + 1, j) } else { 0 },
+                },
+                Edge { out: -(east.at(i, j - 1) + east.at(i, j)), beyond: if i > 0 { site.north(i - 1, j) } else { 0 } },
+            ],
+        }
+    }
+
+    fn inner_faces(&self) -> Vec<Face> {
+        let (columns, rows) = (self.site.columns(), self.site.rows());
+        let eastward = (0..rows).flat_map(|j| (1..columns).map(move |i| self.east_face(i, j)));
+        let northward = (1..rows).flat_map(|j| (0..columns).map(move |i| self.north_face(i, j)));
+        eastward.chain(northward).collect()
+    }
+}
+
+/// One dual edge of a face's cell: the flow over it, positive out of the cell, and the velocity of the parallel face beyond it.
+/// Beyond a side wall there is no flow, so that any velocity does.
+struct Edge {
+    out: i128,
+    beyond: i128,
+}
+
+/// One inner face between K and L, with all that its new velocity needs.
+struct Face {
+    dt: u32,
+    d: u32,
+    u: i128,
+    old_sum: i128,
+    new_sum: i128,
+    // (hL' + zL) − (hK' + zK)
+    rise: i128,
+    // ahead and behind along the face's direction, then the two sides
+    edges: [Edge; 4],
+}
+
+impl Face {
+    /// H less all flow out.
+    fn own_share(&self) -> i128 {
+        self.old_sum - self.edges.iter().map(|edge| edge.out.max(0)).sum::<i128>()
+    }
+
+    /// A = own share·u + the sum of flow in·its velocity.
+    fn carried(&self) -> i128 {
+        self.own_share() * self.u + self.edges.iter().map(|edge| (-edge.out).max(0) * edge.beyond).sum::<i128>()
+    }
+
+    /// S = trunc(9,806,650·dt·((hL'+zL) − (hK'+zK)) / (1000·d)); Rust's quotient goes towards zero.
+    fn slope(&self) -> i128 {
+        GRAVITY * i128::from(self.dt) * self.rise / (1_000 * i128::from(self.d))
+    }
+
+    /// 0 if H' = 0, otherwise trunc(A/H') − S.
+    fn new_velocity(&self) -> i128 {
+        if self.new_sum == 0 {
+            0
+        } else {
+            self.carried() / self.new_sum - self.slope()
+        }
+    }
+}
+
+fn fits(range: &std::ops::RangeInclusive<i32>, number: i128) -> bool {
+    i128::from(*range.start()) <= number && number <= i128::from(*range.end())
+}
+
+/// One step of a site that passes the first three checks: the next state, or the lowest of 4 to 7 that applies.
+pub fn advance(site: &Site) -> Result<Vec<i32>, u32> {
+    let (columns, rows) = (site.columns(), site.rows());
+    if !(0..rows).all(|j| (0..columns).all(|i| within_step_limit(site, i, j))) {
+        return Err(4);
+    }
+    let moving = Moving::of(site);
+    if moving.new_heights.numbers.iter().any(|&height| height > 50_000_000) {
+        return Err(5);
+    }
+    if moving.inner_faces().iter().any(|face| face.own_share() < 0) {
+        return Err(6);
+    }
+    // walls stay 0
+    let east = Grid::of(columns + 1, rows, |i, j| if i == 0 || i == columns { 0 } else { moving.east_face(i, j).new_velocity() });
+    let north = Grid::of(columns, rows + 1, |i, j| if j == 0 || j == rows { 0 } else { moving.north_face(i, j).new_velocity() });
+    if !east.numbers.iter().chain(&north.numbers).all(|&velocity| fits(&VELOCITIES, velocity)) {
+        return Err(7);
+    }
+    assert!(
+        moving.new_heights.numbers.iter().all(|&height| fits(&HEIGHTS, height)),
+        "the step limit keeps heights at or above 0"
+    );
+    Ok([moving.new_heights.words(), east.words(), north.words()].concat())
+}
+
+/// The call: refused, the next state is as lent.
+pub fn step(card: Card, ground: &[i32], state: &[i32], next: &mut [i32]) -> u32 {
+    let site = Site { card, ground, state };
+    let number = check_with(&site, next.len() == state.len(), || true);
+    if number != 0 {
+        return number;
+    }
+    match advance(&site) {
+        Ok(filled) => {
+            next.copy_from_slice(&filled);
+            0
+        }
+        Err(number) => number,
+    }
+}

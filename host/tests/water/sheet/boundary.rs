@@ -1,0 +1,137 @@
+//! Sheets of every size, with every byte damaged, of every length; lists and rooms of every length; refusals in their order.
+
+use super::{read, set_length_field, sheet_of};
+use crate::given::Given;
+use crate::rng::Rng;
+use crate::wild::Wild;
+use crate::{library, model};
+use water::raw::{Card, Heard, Wrote};
+
+/// A site of the given size with words of every kind in it.
+fn filled(columns: u32, rows: u32) -> Wild {
+    let rng = &mut Rng::new(u64::from(columns * 1_000 + rows));
+    let mut site = Wild::empty(Card { columns, rows, dx: 100_000, dy: 20_000_000, dt: 1_000, steps: 10_000 });
+    for k in 0..site.ground.len() {
+        site.ground[k] = rng.pick(&[-50_000_000, -1, 0, 1, 256, 50_000_000]);
+        site.state[k] = rng.pick(&[0, 1, 255, 65_536, 16_777_216, 50_000_000]);
+    }
+    for j in 0..rows {
+        for i in 1..columns {
+            let place = site.east(i, j);
+            site.state[place] = rng.pick(&[-20_000_000, -1, -256, 0, 20_000_000]);
+        }
+    }
+    for j in 1..rows {
+        for i in 0..columns {
+            let place = site.north(i, j);
+            site.state[place] = rng.pick(&[-20_000_000, -1, -256, 0, 20_000_000]);
+        }
+    }
+    site
+}
+
+#[test]
+fn the_smallest_and_the_largest() {
+    for (columns, rows, size) in [(1, 1, 43), (1, 128, 2_583), (128, 1, 2_583), (128, 128, 263_187), (2, 1, 63), (32, 32, 16_659)]
+    {
+        let rng = &mut Rng::new(1);
+        let site = filled(columns, rows);
+        let sheet = sheet_of(rng, &site);
+        assert_eq!(sheet.len(), size);
+        let (heard, back) = read(rng, &sheet, columns, rows);
+        assert_eq!(heard, Heard { number: 0, card: site.card });
+        assert_eq!(back, site);
+    }
+}
+
+/// Each byte of a good sheet set to each of its other 255 values.
+#[test]
+fn each_byte_damaged() {
+    for (columns, rows) in [(1, 1), (2, 2), (3, 1)] {
+        let rng = &mut Rng::new(7);
+        let good = sheet_of(rng, &filled(columns, rows));
+        let mut given = Given::default();
+        for place in 0..good.len() {
+            for change in 1..=255 {
+                let mut sheet = good.clone();
+                sheet[place] ^= change;
+                given.count(read(rng, &sheet, columns, rows).0.number);
+            }
+        }
+        given.assert_often("a damaged byte", &[0, 1, 2, 3, 9], 1_000);
+    }
+}
+
+/// Every truncation of a good sheet, with its length field as it was (9) and set to the bytes given (2, or 9 below 19 bytes).
+#[test]
+fn every_truncation() {
+    for (columns, rows) in [(1, 1), (2, 1), (5, 4)] {
+        let rng = &mut Rng::new(8);
+        let good = sheet_of(rng, &filled(columns, rows));
+        for length in 0..good.len() {
+            let mut sheet = good[..length].to_vec();
+            assert_eq!(read(rng, &sheet, columns, rows).0, Heard { number: 9, card: Card::default() });
+            if length >= 4 {
+                set_length_field(&mut sheet);
+                let number = if length < 19 { 9 } else { 2 };
+                assert_eq!(read(rng, &sheet, columns, rows).0, Heard { number, card: Card::default() });
+            }
+        }
+        for more in 1..20 {
+            let mut sheet = good.clone();
+            sheet.resize(good.len() + more, 0);
+            assert_eq!(read(rng, &sheet, columns, rows).0.number, 9);
+            set_length_field(&mut sheet);
+            assert_eq!(read(rng, &sheet, columns, rows).0.number, 2);
+        }
+    }
+}
+
+#[test]
+fn lists_of_the_wrong_length() {
+    let rng = &mut Rng::new(9);
+    let site = filled(3, 2);
+    let sheet = sheet_of(rng, &site);
+    for ground in [0, 1, 5, 6, 7, 12] {
+        for state in [0, 22, 23, 24, 46] {
+            let heard = library::read_sheet(rng, &sheet, &mut vec![1; ground], &mut vec![2; state]);
+            let right = ground == 6 && state == 23;
+            assert_eq!(heard.number, if right { 0 } else { 2 });
+        }
+    }
+}
+
+/// Refusals in their order: 9 before 1 before 2 before 3.
+#[test]
+fn the_reader_looks_for_nine_first() {
+    let rng = &mut Rng::new(10);
+    let mut sheet = sheet_of(rng, &filled(3, 2));
+    // word 0, a height: out of range
+    sheet[19 + 4 * 6..][..4].copy_from_slice(&(-1i32).to_be_bytes());
+    assert_eq!(read(rng, &sheet, 3, 2).0.number, 3);
+    assert_eq!(read(rng, &sheet, 2, 2).0.number, 2);
+    sheet[15..17].copy_from_slice(&[0, 0]);
+    assert_eq!(read(rng, &sheet, 2, 2).0.number, 1);
+    sheet[4] = 2;
+    assert_eq!(read(rng, &sheet, 2, 2).0.number, 9);
+}
+
+/// The writer's 8 comes after 1 to 3, and leaves the bytes as lent.
+#[test]
+fn the_writer_needs_its_room() {
+    let rng = &mut Rng::new(11);
+    let site = filled(2, 2);
+    let size = model::sheet_size(&site.card);
+    for room in 0..=size + 3 {
+        let wrote = library::write_sheet(rng, site.card, &site.ground, &site.state, &mut vec![0xee; room]);
+        let right = if room < size { Wrote { number: 8, size: 0 } } else { Wrote { number: 0, size: size as u32 } };
+        assert_eq!(wrote, right);
+    }
+    let mut hurt = site.clone();
+    hurt.state[0] = -1;
+    assert_eq!(library::write_sheet(rng, hurt.card, &hurt.ground, &hurt.state, &mut Vec::new()).number, 3);
+    hurt.ground.pop();
+    assert_eq!(library::write_sheet(rng, hurt.card, &hurt.ground, &hurt.state, &mut Vec::new()).number, 2);
+    hurt.card.dt = 0;
+    assert_eq!(library::write_sheet(rng, hurt.card, &hurt.ground, &hurt.state, &mut Vec::new()).number, 1);
+}

@@ -1,0 +1,64 @@
+//! Sites on the brink of refusals 4, 5 and 7: exactly within, or beyond by as little as the numbers allow.
+
+use super::{card, Wild, HEIGHT, SPEED};
+use crate::model;
+use crate::rng::Rng;
+use water::raw::Card;
+
+/// A middle cell whose faces meet the step limit exactly, or pass it by as little as the numbers allow.
+pub fn of_limit(rng: &mut Rng) -> Wild {
+    let card = loop {
+        let card = Card { columns: 3, rows: 3, ..card(rng) };
+        // both faces of a direction together can use the limit up
+        if 1_000 * i64::from(card.dx.max(card.dy)) <= i64::from(card.dt) * 2 * SPEED {
+            break card;
+        }
+    };
+    let (dx, dy, dt) = (i64::from(card.dx), i64::from(card.dy), i64::from(card.dt));
+    let west_east = rng.between(0, 1_000 * dx / dt).min(2 * SPEED);
+    let left = 1_000 * dx * dy - dt * west_east * dy;
+    let south_north = (left / (dt * dx) + rng.between(0, 1)).min(2 * SPEED);
+    let mut site = Wild::empty(card);
+    site.state[..9].fill(rng.pick(&[0, 1, 1_000_000]));
+    let faces = [(site.east(1, 1), site.east(2, 1), west_east), (site.north(1, 1), site.north(1, 2), south_north)];
+    for (low, high, sum) in faces {
+        let first = rng.between((sum - SPEED).max(0), sum.min(SPEED));
+        site.state[low] = (first * rng.pick(&[1, -1])) as i32;
+        site.state[high] = ((sum - first) * rng.pick(&[1, -1])) as i32;
+    }
+    site
+}
+
+/// Two cells, the second of which comes to 50,000,000 exactly, one below or one above; the surface is level afterwards.
+pub fn of_height(rng: &mut Rng) -> Wild {
+    let card = Card { columns: 2, rows: 1, ..card(rng) };
+    let mut site = Wild::empty(card);
+    let limit = (1_000 * i64::from(card.dx) / i64::from(card.dt)).min(SPEED);
+    let u = rng.scaled(1, limit);
+    let height = rng.scaled(1, HEIGHT);
+    let transfer = model::transfer(card.dt, card.dx, height.into(), 0, u.into()) as i64;
+    let other = (HEIGHT - transfer + rng.between(-1, 1)).min(HEIGHT);
+    let apart = (other + transfer) - (height - transfer);
+    let middle = site.east(1, 0);
+    site.state[..2].copy_from_slice(&[height as i32, other as i32]);
+    site.state[middle] = u as i32;
+    site.ground.copy_from_slice(&[(apart / 2) as i32, -(apart / 2) as i32]);
+    site
+}
+
+/// Two still cells whose slope gives 20,000,000 exactly or nearly, to either side.
+pub fn of_speed(rng: &mut Rng) -> Wild {
+    let card = Card {
+        columns: 2,
+        rows: 1,
+        dx: rng.between(10_000_000, 20_000_000) as u32,
+        dt: rng.between(500, 1_000) as u32,
+        ..card(rng)
+    };
+    let (dx, dt) = (i64::from(card.dx), i64::from(card.dt));
+    let rise = (1_000 * dx * SPEED / (9_806_650 * dt) + rng.between(-3, 3)) * rng.pick(&[1, -1]);
+    let mut site = Wild::empty(card);
+    site.state[..2].fill(rng.scaled(1, HEIGHT) as i32);
+    site.ground.copy_from_slice(&[-(rise / 2) as i32, (rise - rise / 2) as i32]);
+    site
+}

@@ -1,0 +1,136 @@
+//! The safe wrapper over the calls: typed refusals with the document's numbers, and a site that owns its lists.
+
+use crate::model;
+use crate::trials::trials;
+use crate::wild;
+use std::ops::ControlFlow;
+use water::{calls, Card, Chamber, Refusal, Site, Tally, Window};
+
+/// The number of an answer, 0 if it was not refused.
+fn number<T>(answer: &Result<T, Refusal>) -> u32 {
+    match answer {
+        Ok(_) => 0,
+        Err(refusal) => refusal.number(),
+    }
+}
+
+#[test]
+fn every_refusal_has_its_number() {
+    let refusals = [
+        Refusal::Card,
+        Refusal::Length,
+        Refusal::Value,
+        Refusal::StepLimit,
+        Refusal::TooHigh,
+        Refusal::OwnShare,
+        Refusal::TooFast,
+        Refusal::Room { needed: 3 },
+        Refusal::Sheet,
+    ];
+    for (k, refusal) in refusals.iter().enumerate() {
+        assert_eq!(refusal.number(), k as u32 + 1);
+        assert!(refusal.to_string().ends_with(&format!("({})", k + 1)), "{refusal}");
+    }
+}
+
+#[test]
+fn a_site_is_made_exactly_where_the_checks_pass() {
+    trials("site", 3_000, |rng| {
+        let site = wild::any(rng);
+        let made = Site::new(site.card, site.ground.clone(), site.state.clone());
+        assert_eq!(number(&made), model::check(&site.site()));
+        let heights = site.state[..site.state.len() / 3].to_vec();
+        // whatever the card says, nothing of its size is believed before it is checked
+        drop(Site::still(site.card, site.ground, &heights));
+    });
+}
+
+#[test]
+fn a_site_steps_as_the_model() {
+    trials("site steps", 1_000, |rng| {
+        let start = wild::good(rng);
+        let mut site = Site::new(start.card, start.ground.clone(), start.state.clone()).unwrap();
+        let mut next = start.state.clone();
+        let expected = model::step(start.card, &start.ground, &start.state, &mut next);
+        assert_eq!(number(&site.step()), expected);
+        assert_eq!(site.state(), next);
+        assert_eq!((site.card(), site.ground()), (start.card, &start.ground[..]));
+        let parts = [site.heights(), site.eastward(), site.northward()].concat();
+        assert_eq!(site.state(), parts);
+    });
+}
+
+#[test]
+fn a_run_in_slices_ends_as_a_whole_run() {
+    let mut stopped = 0;
+    trials("slices", 1_500, |rng| {
+        let start = wild::good(rng);
+        let card = Card { steps: rng.below(60) as u32, ..start.card };
+        let mut whole = Site::new(card, start.ground, start.state).unwrap();
+        let mut sliced = whole.clone();
+        let slice = rng.between(1, 20) as u32;
+        let tally = whole.run();
+        let mut looks = 0;
+        let joined = sliced.run_in_slices(slice, |site, so_far| {
+            looks += 1;
+            assert_eq!(so_far.steps, (looks * slice).min(card.steps));
+            assert!(so_far.reason.is_none() && so_far.top >= *site.heights().iter().max().unwrap());
+            ControlFlow::Continue(())
+        });
+        assert_eq!(joined, tally);
+        assert_eq!(sliced.state(), whole.state());
+        stopped += u32::from(tally.reason.is_some());
+    });
+    println!("slices: {stopped} runs were stopped on their way");
+}
+
+#[test]
+fn a_look_can_break_a_run_off() {
+    let card = Card { columns: 2, rows: 1, dx: 1_000_000, dy: 1_000_000, dt: 100, steps: 10_000 };
+    let mut site = Site::still(card, vec![0, 0], &[7, 7]).unwrap();
+    let tally =
+        site.run_in_slices(3, |_, so_far| if so_far.steps < 9 { ControlFlow::Continue(()) } else { ControlFlow::Break(()) });
+    assert_eq!(tally, Tally { steps: 9, reason: None, top: 7 });
+}
+
+#[test]
+fn sheets_and_searches_of_a_site() {
+    trials("site sheets", 500, |rng| {
+        let start = wild::good(rng);
+        let site = Site::new(start.card, start.ground, start.state).unwrap();
+        let sheet = site.write_sheet();
+        assert_eq!(sheet.len(), site.card().sheet_size());
+        assert_eq!(Site::read_sheet(&sheet).as_ref(), Ok(&site));
+        let width = i64::from(site.card().columns) * i64::from(site.card().dx);
+        let chambers = [Chamber { x: width, y: 0 }, Chamber { x: 0, y: 0 }];
+        let window = Window { west: 0.0, south: 0.0, east: width as f64, north: 0.0 };
+        let places = site.search(&chambers, window, 0);
+        assert_eq!(places, Ok(vec![0, 1]));
+        assert_eq!(site.search_lists(&[width, 0], &[0, 0], window, 0), places);
+        assert_eq!(site.search_lists(&[width, 0], &[0], window, 0), Err(Refusal::Length));
+    });
+}
+
+#[test]
+fn bytes_that_are_no_sheet() {
+    for length in 0..=70 {
+        let mut bytes = vec![255; length];
+        assert_eq!(Site::read_sheet(&bytes), Err(Refusal::Sheet));
+        if length > 4 {
+            bytes[..4].copy_from_slice(&(length as u32).to_be_bytes());
+            bytes[4] = 1;
+            let refusal = if length < 19 { Refusal::Sheet } else { Refusal::Card };
+            assert_eq!(Site::read_sheet(&bytes), Err(refusal));
+        }
+    }
+}
+
+#[test]
+fn room_is_told() {
+    let card = Card { columns: 2, rows: 1, dx: 1_000_000, dy: 1_000_000, dt: 100, steps: 0 };
+    let state = [5, 6, 0, 0, 0, 0, 0, 0, 0];
+    assert_eq!(calls::write_sheet(card, &[0, 0], &state, &mut [0; 62]), Err(Refusal::Room { needed: 63 }));
+    let chambers = [Chamber::default(); 3];
+    let found = calls::search(card, &[0, 0], &state, &chambers, Window::default(), 0, &mut [0; 2]);
+    assert_eq!(found, Err(Refusal::Room { needed: 3 }));
+}

@@ -1,0 +1,118 @@
+/* water.h: what a host links. Document 01 says what each call does; this page says how C reaches it.
+ *
+ * Every call takes any input at all: any card, any length, any word. Nothing is required of the caller but that each pointer
+ * reaches as many elements as the length behind it says (a length of 0 allows any pointer, NULL too), and that a list that a
+ * call fills overlaps no other list of the same call. No call keeps state, allocates or fails in another way than by its number.
+ *
+ * Numbers: 0 done, 1 card out of range, 2 a list has the wrong length (or over 1,000 chambers), 3 a value out of range,
+ * a wall velocity not 0 or a window edge not finite, 4 a cell breaks the step limit, 5 a new height exceeds 50,000,000,
+ * 6 an own share is negative, 7 a new velocity is out of range, 8 the lent room is too short, 9 not a sheet of version 1.
+ * The lowest number that applies is given; the sheet reader looks for 9 first.
+ *
+ * Lists: rows run south to north, and within a row west to east. Ground is columns*rows words. A state is columns*rows heights,
+ * then (columns+1)*rows eastward velocities, then columns*(rows+1) northward velocities. Micrometres and micrometres a second.
+ */
+#ifndef WATER_H
+#define WATER_H
+
+#include <stddef.h>
+#include <stdint.h>
+
+#ifdef __cplusplus
+extern "C" {
+#endif
+
+/* The site card: columns, rows 1 to 128; dx, dy 100,000 to 20,000,000 um; dt 1 to 1,000 ms; steps wanted 0 to 10,000. */
+typedef struct {
+    uint32_t columns, rows, dx, dy, dt, steps;
+} WaterCard;
+
+/* What a run answers: steps done, the reason it stopped (0 if all were done), the greatest height met. */
+typedef struct {
+    uint32_t steps, reason;
+    int32_t top;
+} WaterTally;
+
+/* The four edges of a window in micrometres, as the finger drew them. */
+typedef struct {
+    double west, south, east, north;
+} WaterWindow;
+
+/* A chamber of the register, in micrometres from the south-west corner. */
+typedef struct {
+    int64_t x, y;
+} WaterChamber;
+
+/* What a search answers. */
+typedef struct {
+    uint32_t number, count;
+} WaterFound;
+
+/* What the sheet reader answers. */
+typedef struct {
+    uint32_t number;
+    WaterCard card;
+} WaterHeard;
+
+/* What the sheet writer answers. */
+typedef struct {
+    uint32_t number, size;
+} WaterWrote;
+
+/* One step: reads ground and state and fills next, a list of the state's length.
+ * Refused with 1 to 7: next is as lent. */
+uint32_t water_step(WaterCard card,
+                    const int32_t *ground, size_t ground_length,
+                    const int32_t *state, size_t state_length,
+                    int32_t *next, size_t next_length);
+
+/* As many steps as the card wants, on state itself; scratch is a list of the state's length.
+ * Reasons 1 to 3: steps 0, top 0, both lists as lent. Otherwise, whatever the reason (0 or 4 to 7), state holds the last accepted
+ * state, scratch is all zero, and top is the greatest height in the starting state and each accepted one. */
+WaterTally water_run(WaterCard card,
+                     const int32_t *ground, size_t ground_length,
+                     int32_t *state, size_t state_length,
+                     int32_t *scratch, size_t scratch_length);
+
+/* The chambers inside the window whose cell is at least depth deep: their places in the register from 0, rising, each once.
+ * Done: count places stand in front of found, the rest is as lent. 8: count is the room needed, found is as lent.
+ * 1 to 3: count is 0, found is as lent. Depth is 0 to 50,000,000; 2 also for over 1,000 chambers. */
+WaterFound water_search(WaterCard card,
+                        const int32_t *ground, size_t ground_length,
+                        const int32_t *state, size_t state_length,
+                        const WaterChamber *chambers, size_t chambers_length,
+                        WaterWindow window, int32_t depth,
+                        uint32_t *found, size_t found_length);
+
+/* The same search over a register kept as two lists; lists of unequal length are refusal 2. */
+WaterFound water_search_lists(WaterCard card,
+                              const int32_t *ground, size_t ground_length,
+                              const int32_t *state, size_t state_length,
+                              const int64_t *xs, size_t xs_length,
+                              const int64_t *ys, size_t ys_length,
+                              WaterWindow window, int32_t depth,
+                              uint32_t *found, size_t found_length);
+
+/* Reads a sheet into ground and state, lists of the lengths that its columns (byte 5) and rows (byte 6) ask for.
+ * Refused with 9, then 1, 2 or 3: an all-zero card, both lists as lent. */
+WaterHeard water_read_sheet(const uint8_t *sheet, size_t sheet_length,
+                            int32_t *ground, size_t ground_length,
+                            int32_t *state, size_t state_length);
+
+/* Writes a sheet to the front of bytes, the rest as lent; its size is 19 + 16*columns*rows + 4*columns + 4*rows.
+ * Refused with 1, 2, 3, or 8 where bytes is shorter than that: size 0, bytes as lent. */
+WaterWrote water_write_sheet(WaterCard card,
+                             const int32_t *ground, size_t ground_length,
+                             const int32_t *state, size_t state_length,
+                             uint8_t *bytes, size_t bytes_length);
+
+/* The depth text of a height ("dry", "<1 cm", "123 cm") at the front of scratch, with no zero byte behind it; its length is returned
+ * and the rest is as lent. 7 bytes are always enough. 0, and scratch as lent, if height is out of range or scratch is shorter than
+ * the text. */
+size_t water_depth_text(int32_t height, uint8_t *scratch, size_t scratch_length);
+
+#ifdef __cplusplus
+}
+#endif
+
+#endif
