@@ -35,7 +35,6 @@ pub mod Tested
 pub mod Velocities
 pub mod Behind
 pub mod Linear
-pub mod Outcomes
 pub mod Rising
 pub mod Asked
 pub mod Fronts
