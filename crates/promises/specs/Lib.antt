@@ -15,3 +15,7 @@ pub mod MirrorNumbers
 pub mod Swap
 pub mod SwapNumbers
 pub mod StepsWanted
+pub mod ThereAndBack
+pub mod Sheets
+pub mod Edges
+pub mod Searches

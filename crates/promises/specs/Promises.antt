@@ -26,6 +26,10 @@ use Rattle.promises.specs.Slices.{joined, in-slices}
 pub use Rattle.promises.specs.OneOutcome.{one-step, one-run, one-search, one-reading, one-writing, one-text}
 -- and a refused call leaves every list as it was lent
 pub use Rattle.promises.specs.Refused.{step-refused, run-refused, scratch-zero, search-refused, no-count, read-refused, write-refused}
+-- of the sheet: write, then read, gives the site back; read, then write, gives the bytes back; each site has one sheet
+pub use Rattle.promises.specs.Sheets.{written-reads, read-is-sheet, one-site, one-sheet, write-then-read, read-then-write}
+-- the search's list is sound, complete and rising; every chamber is compared exactly; a window turned over lists nothing; -0.0 is 0
+pub use Rattle.promises.specs.Searches.{finds, inside-exactly, compared-exactly, lists-nothing, minus-zero-answer, minus-zero-list}
 
 -- ---- Demand 3
 

@@ -7,7 +7,7 @@ use lib.IntN.{ℤ, natAbs}
 use lib.Dec.{leb, eqb}
 use Rattle.rules.specs.declared.Card.{Card}
 use Rattle.rules.specs.declared.Tally.{Tally}
-use Rattle.rules.specs.Site.{cells, stateLength, readState}
+use Rattle.rules.specs.Site.{cells, stateLength, readState, firstRefusal, ifDone}
 use Rattle.rules.specs.Run.{Outcome, run}
 use Rattle.rules.specs.Sheet.{cardIn, groundIn, stateIn, readNumber}
 use Rattle.rules.specs.Text.{decimal, depthText}
@@ -31,32 +31,48 @@ comma = 44 ∷ 32 ∷ []
 abbrev pub lineFeed : List ℕ
 lineFeed = 10 ∷ []
 
+-- a word and a number
+unfoldable pub labelled : (word : List ℕ) → ℕ → List ℕ
+labelled word n = word ++ decimal n
+
 -- `refused`, a space and a number
 unfoldable pub refusedLine : ℕ → List ℕ
-refusedLine k = refusedWord ++ (decimal k ++ lineFeed)
+refusedLine k = labelled refusedWord k ++ lineFeed
 
 -- steps done, reason and top in µm
 unfoldable pub tallyLine : Tally → List ℕ
-tallyLine t = stepsWord ++ (decimal (t .steps) ++ (reasonWord ++ (decimal (t .reason) ++ (topWord ++ (decimal (natAbs (t .top)) ++ lineFeed)))))
+tallyLine t = labelled stepsWord (t .steps) ++ (labelled reasonWord (t .reason) ++ (labelled topWord (natAbs (t .top)) ++ lineFeed))
 
--- the first n depth texts of row j, joined by a comma and a space
+-- the depth text of a cell, with a comma and a space before it unless it is the first of its row
+unfoldable pub cellText : Card → (state : List ℤ) → (i j : ℕ) → List ℕ
+cellText c s i j = cond (eqb i 0) [] comma ++ depthText (readState c s .height i j)
+
+-- the first n depth texts of row j
 unfoldable pub rowTexts : Card → (state : List ℤ) → (j n : ℕ) → List ℕ
 rowTexts c s j zero = []
-rowTexts c s j (suc i) = rowTexts c s j i ++ (cond (eqb i 0) [] comma ++ depthText (readState c s .height i j))
+rowTexts c s j (suc i) = rowTexts c s j i ++ cellText c s i j
 
 -- a line for each of the first n rows, south first
 unfoldable pub rowLines : Card → (state : List ℤ) → ℕ → List ℕ
 rowLines c s zero = []
 rowLines c s (suc j) = rowLines c s j ++ (rowTexts c s j (c .columns) ++ lineFeed)
 
+-- a run's tally, and the rows of the state that it ends in
 unfoldable pub playedText : Card → Outcome → List ℕ
 playedText c o = tallyLine (o .tally) ++ rowLines c (o .state) (c .rows)
 
--- where the reader's own number is 0: 8 where columns or rows exceed 32, else the run
-unfoldable pub playRead : (number : ℕ) → List ℕ → List ℕ
-playRead zero l = cond (leb (cardIn l .columns) 32 && leb (cardIn l .rows) 32) (playedText (cardIn l) (run (cardIn l) (groundIn l) (stateIn l))) (refusedLine 8)
-playRead (suc k) l = refusedLine (suc k)
+-- the run of a sheet
+unfoldable pub played : (sheet : List ℕ) → List ℕ
+played l = playedText (cardIn l) (run (cardIn l) (groundIn l) (stateIn l))
 
--- 8 for input over 16,659 bytes; else the reader's own number, its lists cut to the header's size
+-- the reader's own number, its lists cut to the header's size
+unfoldable pub ownNumber : (input : List ℕ) → ℕ
+ownNumber l = readNumber l (cells (cardIn l)) (stateLength (cardIn l))
+
+-- 8 for input over 16,659 bytes; else the reader's own; else 8 where columns or rows exceed 32
+unfoldable pub playNumber : (input : List ℕ) → ℕ
+playNumber l = cond (leb (length l) 16659) (firstRefusal (ownNumber l) (cond (leb (cardIn l .columns) 32 && leb (cardIn l .rows) 32) 0 8)) 8
+
+-- where the sheet isn't run, one line with the number
 unfoldable pub printed : (input : List ℕ) → List ℕ
-printed l = cond (leb (length l) 16659) (playRead (readNumber l (cells (cardIn l)) (stateLength (cardIn l))) l) (refusedLine 8)
+printed l = ifDone (playNumber l) (played l) (refusedLine (playNumber l))

@@ -1,8 +1,102 @@
-// What a host may call. Every call takes any input at all: it checks what it was given, answers by document 01's numbers, and its contract
-// (rules, Contracts.antt) fixes the answer and what each lent list holds at exit.
-ghost use Rattle.rules.specs.Contracts.{TextContract};
+// What a host may call. Every call takes any input at all: it checks what it was given and answers by document 01's numbers, and its contract
+// (rules, Contracts.antt) fixes the answer and what each list that was lent to be written holds at exit.
+ghost use Rattle.rules.specs.Contracts.{StepContract, RunContract, SearchContract, RowSearchContract, ReadContract, WriteContract, TextContract};
+use rules::Card;
+use rules::Chamber;
+use rules::Found;
+use rules::Heard;
+use rules::Tally;
+use rules::Window;
+use rules::Wrote;
 
-// The depth text of a height at the front of the scratch, and its length; 0 and the scratch as lent where the height is out of range or the scratch is shorter than the text.
+// One step: its number, and the next state. Refused: the next state as lent.
+#[no_mangle]
+pub extern "C" fn water_step(card: Card, ground: &[i32], state: &[i32], next: &mut [i32]) -> u32
+    ensures { λ r. ⌜ StepContract card (now (ground .entry)) (now (state .entry)) (now (next .entry)) r (now (next .exit)) ⌝ }
+{
+    step::step(card, ground, state, next)
+}
+
+// A run: steps done, reason and top; the last accepted state in the place of the first, and the scratch list all zero. Reasons 1 to 3: both lists as lent.
+#[no_mangle]
+pub extern "C" fn water_run(
+    card: Card,
+    ground: &[i32],
+    state: &mut [i32],
+    scratch: &mut [i32],
+) -> Tally
+    ensures { λ r. ⌜ RunContract card (now (ground .entry)) (now (state .entry)) (now (scratch .entry)) r (now (state .exit)) (now (scratch .exit)) ⌝ }
+{
+    run::run(card, ground, state, scratch)
+}
+
+// The chambers of a register, lent as two lists of numbers, that lie in the window and under at least so much water: the number, the count, and the places
+// in the register at the front of `found`. Refused: the list as lent; 8 tells the count needed.
+#[no_mangle]
+pub extern "C" fn water_search_lists(
+    card: Card,
+    ground: &[i32],
+    state: &[i32],
+    xs: &[i64],
+    ys: &[i64],
+    window: Window,
+    depth: i32,
+    found: &mut [u32],
+) -> Found
+    ensures { λ r. ⌜ SearchContract card (now (ground .entry)) (now (state .entry)) (now (xs .entry)) (now (ys .entry)) window depth (now (found .entry)) r (now (found .exit)) ⌝ }
+{
+    search::search_lists(card, ground, state, xs, ys, window, depth, found)
+}
+
+// The same over a row of chamber records, with the same answer for every input. The borrow checker covers no function over a slice of structs, so this one is
+// proved by hand, and only hands on.
+#[no_mangle]
+pub extern "C" fn water_search(
+    card: Card,
+    ground: &[i32],
+    state: &[i32],
+    chambers: &[Chamber],
+    window: Window,
+    depth: i32,
+    found: &mut [u32],
+) -> Found
+    ensures { λ r. ⌜ RowSearchContract card (now (ground .entry)) (now (state .entry)) (now (chambers .entry)) window depth (now (found .entry)) r (now (found .exit)) ⌝ }
+{
+    search::row::search_gathered(
+        card,
+        ground,
+        state,
+        search::row::gather(chambers),
+        chambers.len(),
+        window,
+        depth,
+        found,
+    )
+}
+
+// The site of a sheet: the number and the card, and its ground and its state in the lent lists. Refused: an all-zero card, both lists as lent.
+#[no_mangle]
+pub extern "C" fn water_read_sheet(sheet: &[u8], ground: &mut [i32], state: &mut [i32]) -> Heard
+    ensures { λ r. ⌜ ReadContract (now (sheet .entry)) (now (ground .entry)) (now (state .entry)) r (now (ground .exit)) (now (state .exit)) ⌝ }
+{
+    sheet::read_sheet(sheet, ground, state)
+}
+
+// The sheet of a site: the number and the size, and the bytes in front of the lent list. Refused: size 0, the bytes as lent.
+#[no_mangle]
+pub extern "C" fn water_write_sheet(
+    card: Card,
+    ground: &[i32],
+    state: &[i32],
+    bytes: &mut [u8],
+) -> Wrote
+    ensures { λ r. ⌜ WriteContract card (now (ground .entry)) (now (state .entry)) (now (bytes .entry)) r (now (bytes .exit)) ⌝ }
+{
+    sheet::write_sheet(card, ground, state, bytes)
+}
+
+// The depth text of a height at the front of the scratch, and its length; 0 and the scratch as lent where the height is out of range or the scratch is
+// shorter than the text. In Rattle, text::depth_text hands back the written part; across C its length is what can be handed over.
 #[no_mangle]
 pub extern "C" fn water_depth_text(height: i32, scratch: &mut [u8]) -> usize
     ensures { λ r. ⌜ TextContract height (now (scratch .entry)) r (now (scratch .exit)) ⌝ }

@@ -1,0 +1,30 @@
+-- A call's number and what it leaves: where the number is 0, and where it refuses.
+use Prim.Native.Nat.{ℕ, zero, suc}
+use mathlib.Core.Path.{_≡_, refl}
+use native.Mathlib.Nat.{suc-ne-zero}
+use Rattle.rules.specs.Site.{firstRefusal, ifDone}
+
+-- the first number refuses; it does not, and the second counts; neither does
+pub first-refused : (k n : ℕ) → (k ≡ 0 → ⊥) → firstRefusal k n ≡ k
+unfolding firstRefusal
+first-refused zero n h = absurd (h refl)
+first-refused (suc k) n h = refl
+
+pub first-passed : (k n : ℕ) → k ≡ 0 → firstRefusal k n ≡ n
+unfolding firstRefusal
+first-passed k n e = rw e
+
+pub both-passed : (k n : ℕ) → firstRefusal k n ≡ 0 → (k ≡ 0) × (n ≡ 0)
+unfolding firstRefusal
+both-passed zero n e = (refl, e)
+both-passed (suc k) n e = absurd (suc-ne-zero k e)
+
+module _ {A : Type 0} where
+  pub if-done : (k : ℕ) (done refused : A) → k ≡ 0 → ifDone k done refused ≡ done
+  unfolding ifDone
+  if-done k done refused e = rw e
+
+  pub if-refused : (k : ℕ) (done refused : A) → (k ≡ 0 → ⊥) → ifDone k done refused ≡ refused
+  unfolding ifDone
+  if-refused zero done refused h = absurd (h refl)
+  if-refused (suc k) done refused h = refl

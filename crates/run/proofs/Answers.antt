@@ -1,0 +1,66 @@
+-- What the first three checks give a run, and each answer of the public run.
+use mathlib.Core.Path.{_≡_, sym, ap, _∙_}
+use mathlib.Core.List.{List}
+use Prim.Native.Nat.{ℕ, _≤_}
+use native.Mathlib.Nat.{pos-of-ne-zero}
+use native.Mathlib.Omega.{arith}
+use lib.IntN.{ℤ, pos}
+use lib.ListN.{length, take, replicate}
+use lib.Seq.{length-take-le}
+use Rattle.rules.specs.declared.Card.{Card}
+use Rattle.rules.specs.declared.Tally.{Tally}
+use Rattle.rules.specs.Site.{stateLength, checkWith}
+use Rattle.rules.specs.Run.{Outcome, runAfter, runAll}
+use Rattle.rules.specs.Calls.{runOutcome, runTally, runState, runScratch}
+use Rattle.rules.specs.Contracts.{RunContract}
+use Rattle.laws.specs.Facts.{check-with-facts, check-own}
+use Rattle.laws.specs.Outcomes.{if-done, if-refused}
+use Rattle.laws.specs.Runs.{refused-after}
+use Rattle.run.specs.Running.{Ready, Roomy, Ended}
+
+module _ {c : Card} {g s x t : List ℤ} (roomy : Roomy c g s x t) where
+  pub state-long : length s ≡ stateLength c
+  unfolding stateLength
+  state-long = check-with-facts c g s (length x) (roomy .passes) .0 .lengths .state
+
+  pub tide-room : length s ≤ length t
+  unfolding stateLength
+  tide-room =
+      let card = check-with-facts c g s (length x) (roomy .passes) .0 .card in
+      omega (arith, state-long, roomy .tide-long, card .cells-high, card .easts-high, card .norths-high)
+
+  pub tide-part : length (take (length s) t) ≡ length s
+  tide-part = length-take-le (length s) t tide-room
+
+  pub ready : Ready c g s x (take (length s) t)
+  ready =
+      let room : length x ≡ stateLength c = check-with-facts c g s (length x) (roomy .passes) .1 in
+      record {
+        passes = sym (check-own c g s) ∙ ap (checkWith c g s) (state-long ∙ sym room) ∙ roomy .passes;
+        state-long = state-long;
+        scratch-long = room;
+        tide-long = tide-part ∙ state-long;
+      }
+
+module _ (c : Card) (g s x : List ℤ) where
+  -- 1 to 3: steps 0, top 0, both lists as lent
+  pub refused : (k : ℕ) → k ≡ checkWith c g s (length x) → (k ≡ 0 → ⊥) → RunContract c g s x (record { steps = 0; reason = k; top = pos 0 }) s x
+  unfolding runTally runState runScratch runOutcome
+  refused k e h =
+      let o = refused-after c g (checkWith c g s (length x)) s k (pos-of-ne-zero h) (sym e) in
+      record {
+        answer = sym (ap (λ (o : Outcome). o .tally) o);
+        state-exit = sym (ap (λ (o : Outcome). o .state) o);
+        scratch-exit = sym (if-refused (checkWith c g s (length x)) (replicate (length x) (pos 0)) x (λ z. h (e ∙ z)));
+      }
+
+  -- else the run's outcome, and scratch all zero
+  pub ran : {t : Tally} {s′ y : List ℤ} → checkWith c g s (length x) ≡ 0 → Ended (runAll c g s) t s′ → y ≡ replicate (length x) (pos 0) → RunContract c g s x t s′ y
+  unfolding runTally runState runScratch runOutcome runAfter
+  ran e o z =
+      let p : runAfter (checkWith c g s (length x)) c g s ≡ runAll c g s = ap (λ (k : ℕ). runAfter k c g s) e in
+      record {
+        answer = o .tallied ∙ sym (ap (λ (o : Outcome). o .tally) p);
+        state-exit = o .left ∙ sym (ap (λ (o : Outcome). o .state) p);
+        scratch-exit = z ∙ sym (if-done (checkWith c g s (length x)) (replicate (length x) (pos 0)) x e);
+      }

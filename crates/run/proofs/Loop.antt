@@ -1,0 +1,81 @@
+-- What the loop over a run's steps keeps, and one law for each of its needs.
+use mathlib.Core.Path.{_≡_, refl, sym, ap, _∙_, subst}
+use mathlib.Core.Bool.{true}
+use mathlib.Core.List.{List}
+use Prim.Native.Nat.{ℕ, _+_, _≤_, _<_}
+use native.Mathlib.Omega.{arith}
+use lib.IntN.{ℤ, pos}
+use lib.ListN.{length, getD}
+use Rattle.rules.specs.declared.Card.{Card}
+use Rattle.rules.specs.declared.Tally.{Tally}
+use Rattle.rules.specs.Grid.{greatest}
+use Rattle.rules.specs.Site.{cells, stateLength, cardFits, check}
+use Rattle.rules.specs.Step.{stepNumber, nextState}
+use Rattle.rules.specs.Run.{Outcome, peak, started, accepted, stoppedFor, runAfter, runAll}
+use Rattle.laws.specs.Checks.{apart}
+use Rattle.laws.specs.Facts.{check-facts}
+use Rattle.laws.specs.Keeps.{keeps}
+use Rattle.laws.specs.Runs.{LeadsTo, leads-from, leads-on, leads-nowhere, led}
+use Rattle.run.specs.Running.{Ended}
+
+-- after `done` accepted steps the tally is t and the state s, which still passes the checks; the steps that are left lead to the run's outcome
+pub record Running (c : Card) (g s₀ s : List ℤ) (t : Tally) (done : ℕ) : Type 0 where
+  pub passes : check c g s ≡ 0
+  pub long : length s ≡ stateLength c
+  pub most : done ≤ c .steps
+  pub counted : t .steps ≡ done
+  pub leads : LeadsTo c g (c .steps) done t s (runAll c g s₀)
+
+pub card-true : (c : Card) (g s : List ℤ) → check c g s ≡ 0 → cardFits c ≡ true
+unfolding check
+card-true c g s e = apart _ _ _ e .card
+
+pub cells-held : (c : Card) (g s : List ℤ) → check c g s ≡ 0 → cells c ≤ length s
+unfolding stateLength
+cells-held c g s e = omega (arith, check-facts c g s e .lengths .state)
+
+pub state-length : (c : Card) (g s : List ℤ) → check c g s ≡ 0 → length s ≡ stateLength c
+unfolding stateLength
+state-length c g s e = check-facts c g s e .lengths .state
+
+pub few-steps : (c : Card) (g s : List ℤ) → check c g s ≡ 0 → c .steps ≤ 10000
+few-steps c g s e = omega (arith, check-facts c g s e .card .steps-high)
+
+-- the greatest height, as it was found
+pub peak-is : (c : Card) (s : List ℤ) (n : ℕ) {h : ℤ} → n ≡ cells c → h ≡ greatest n (λ k. getD s k (pos 0)) → h ≡ peak c s
+unfolding peak
+peak-is c s n e p = p ∙ ap (λ (m : ℕ). greatest m (λ k. getD s k (pos 0))) e
+
+pub begins : (c : Card) (g s : List ℤ) (h : ℤ) → check c g s ≡ 0 → h ≡ peak c s → Running c g s s (record { steps = 0; reason = 0; top = h }) 0
+unfolding runAfter started
+begins c g s h e p = record {
+  passes = e;
+  long = state-length c g s e;
+  most = omega arith;
+  counted = refl;
+  leads = subst (λ (x : ℤ). LeadsTo c g (c .steps) 0 (record { steps = 0; reason = 0; top = x }) s (runAll c g s)) (sym p) (leads-from c g s 0 refl);
+}
+
+module _ {c : Card} {g s₀ s : List ℤ} {t : Tally} {done : ℕ} (r : Running c g s₀ s t done) where
+  pub goes-on : done < c .steps → stepNumber c g s ≡ 0 → (s′ : List ℤ) (h : ℤ) → s′ ≡ nextState c g s → h ≡ peak c s′ → (t′ : Tally) → t′ ≡ accepted t h
+      → Running c g s₀ s′ t′ (done + 1)
+  unfolding accepted
+  goes-on l e s′ h is top t′ taken =
+      let kept : check c g s′ ≡ 0 = subst (λ (x : List ℤ). check c g x ≡ 0) (sym is) (keeps c g s (r .passes) e) in
+      let p : t′ ≡ accepted t (peak c (nextState c g s)) = taken ∙ ap (accepted t) (top ∙ ap (peak c) is) in
+      record {
+        passes = kept;
+        long = state-length c g s′ kept;
+        most = omega arith;
+        counted = ap (λ (x : Tally). x .steps) taken ∙ ap (λ (n : ℕ). n + 1) (r .counted);
+        leads =
+            subst (λ (x : List ℤ). LeadsTo c g (c .steps) (done + 1) t′ x (runAll c g s₀)) (sym is)
+            (subst (λ (x : Tally). LeadsTo c g (c .steps) (done + 1) x (nextState c g s) (runAll c g s₀)) (sym p) (leads-on (r .leads) l e));
+      }
+
+  pub stops : done < c .steps → (k : ℕ) → 0 < k → k ≡ stepNumber c g s → Ended (runAll c g s₀) (record { steps = t .steps; reason = k; top = t .top }) s
+  unfolding stoppedFor
+  stops l k z e = let o = leads-nowhere (r .leads) l k z (sym e) in record { tallied = ap (λ (x : Outcome). x .tally) o; left = ap (λ (x : Outcome). x .state) o }
+
+  pub ends : c .steps ≤ done → Ended (runAll c g s₀) t s
+  ends l = let o = led (r .leads) l in record { tallied = ap (λ (x : Outcome). x .tally) o; left = ap (λ (x : Outcome). x .state) o }

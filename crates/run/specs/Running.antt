@@ -1,0 +1,26 @@
+-- What the steps of a run require of their lists, and how they end.
+use mathlib.Core.Path.{_≡_}
+use mathlib.Core.List.{List}
+use lib.IntN.{ℤ}
+use lib.ListN.{length}
+use Rattle.rules.specs.declared.Card.{Card}
+use Rattle.rules.specs.declared.Tally.{Tally}
+use Rattle.rules.specs.Site.{stateLength, check, checkWith}
+use Rattle.rules.specs.Run.{Outcome}
+
+-- a site that passes the first three checks, with a scratch list and a tide as long as its state
+pub record Ready (c : Card) (ground state scratch tide : List ℤ) : Type 0 where
+  pub passes : check c ground state ≡ 0
+  pub state-long : length state ≡ stateLength c
+  pub scratch-long : length scratch ≡ stateLength c
+  pub tide-long : length tide ≡ stateLength c
+
+-- the same as the public call knows it, with a tide that is long enough for any site
+pub record Roomy (c : Card) (ground state scratch tide : List ℤ) : Type 0 where
+  pub passes : checkWith c ground state (length scratch) ≡ 0
+  pub tide-long : length tide ≡ 49408
+
+-- an outcome as a tally and a state
+pub record Ended (o : Outcome) (tally : Tally) (state : List ℤ) : Type 0 where
+  pub tallied : tally ≡ o .tally
+  pub left : state ≡ o .state

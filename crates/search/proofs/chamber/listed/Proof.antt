@@ -1,0 +1,73 @@
+-- `listed`: where the window's test fails the answer is its own, and elsewhere the height's.
+use borrow.Author.Needs.{needs, scaled-fits}
+use mathlib.Core.Path.{_≡_, sym, _∙_}
+use native.Mathlib.Omega.{arith}
+use Prim.Native.Nat.{_≤_, _<_, _*_, _^_}
+use lib.IntN.{pos}
+use lib.ListN.{length, getD}
+use mir.Syntax.{w32}
+use mir.Facts.{toZ-ofZ}
+use Rattle.rules.specs.Site.{readState}
+use Rattle.rules.specs.Search.{inside, listed}
+use Rattle.laws.specs.Facts.{card-facts}
+use Rattle.laws.specs.Along.{along-float, reach-high}
+use Rattle.search.specs.Checked.{cellPlace}
+use Rattle.search.proofs.Cells.{place-below}
+use Rattle.search.proofs.chamber.listed.Statement.{statement}
+use Rattle.search.proofs.chamber.listed.Tie as tie
+
+inside-requires : tie.Need-inside-requires
+inside-requires c κs =
+    let card = c .args .card in
+    let f = card-facts card (c .pre .on .card) in
+    let x-far : card .columns * card .dx ≤ 2 ^ 53 = omega (arith, reach-high (f .columns-high) (f .dx-high)) in
+    let y-far : card .rows * card .dy ≤ 2 ^ 53 = omega (arith, reach-high (f .rows-high) (f .dy-high)) in
+    rw (toZ-ofZ (c .fits .x), toZ-ofZ (c .fits .y)) (along-float _ (c .args .x) x-far (c .pre .on .x-fits), along-float _ (c .args .y) y-far (c .pre .on .y-fits))
+
+cell-place-requires : tie.Need-cell-place-requires
+cell-place-requires c κs = search needs
+
+module _ (c : tie.After-cell-place) where
+  abbrev start : tie.Start
+  start = c .before .before .before
+
+  place-is : c .cell-place .result ≡ cellPlace (start .args .card) (start .args .x) (start .args .y)
+  place-is = simp (c .cell-place .ensures, toZ-ofZ (start .fits .x), toZ-ofZ (start .fits .y))
+
+  within : c .cell-place .result < length (start .args .state .now)
+  within = omega (arith, place-is, place-below (start .args .card) (start .pre .on .card) (start .args .x) (start .args .y), start .pre .heights)
+
+mul-deep-enough : tie.Need-mul-deep-enough
+mul-deep-enough c = scaled-fits (c .cell-place .result) (length (start c .args .state .now)) 4 (within c) (search needs)
+
+shared-slice-copy-out-deep-enough : tie.Need-shared-slice-copy-out-deep-enough
+shared-slice-copy-out-deep-enough c = within c
+
+inside-is : (c : tie.After-inside) → c .inside .result ≡ inside (c .before .args .window) (c .before .args .x) (c .before .args .y)
+inside-is c = simp (c .inside .ensures, toZ-ofZ (c .before .fits .x), toZ-ofZ (c .before .fits .y))
+
+deep-enough-requires : tie.Need-deep-enough-requires
+deep-enough-requires c κs = search needs
+
+returns : tie.Need-returns
+unfolding listed readState
+returns c =
+    let at = c .before .before in
+    let o = at .before .before .before in
+    let height = toZ-ofZ {w = w32} {z = getD (o .args .state .now) (at .cell-place .result) (pos 0)} (record { sfits = c .before .deep-enough-arg .given }) in
+    c .deep-enough .ensures ∙ rw (toZ-ofZ (o .fits .depth), height, place-is at, sym (inside-is (at .before .before)) ∙ at .before .if1 .taken)
+
+returns-2 : tie.Need-returns-2
+unfolding listed
+returns-2 c = simp (sym (inside-is (c .before)) ∙ c .if1 .left)
+
+pub listed-spec : {M : Type 1} → statement M
+listed-spec =
+    tie.close (tie.spec
+    inside-requires
+    cell-place-requires
+    mul-deep-enough
+    shared-slice-copy-out-deep-enough
+    deep-enough-requires
+    returns
+    returns-2)

@@ -1,0 +1,53 @@
+-- What the parts of the search may rest on once the checks have passed, and what they hand back.
+use mathlib.Core.Path.{_≡_}
+use mathlib.Core.Bool.{true, cond}
+use mathlib.Core.List.{List, _++_}
+use Prim.Native.Nat.{ℕ, _+_, _*_, _≤_}
+use lib.Dec.{leb}
+use lib.IntN.{ℤ}
+use lib.ListN.{length, drop}
+use Rattle.rules.specs.declared.Card.{Card}
+use Rattle.rules.specs.declared.Window.{Window}
+use Rattle.rules.specs.declared.Found.{Found}
+use Rattle.rules.specs.Site.{cardFits, cells}
+use Rattle.rules.specs.Search.{cellAlong, alongFits, allAlong, listOf}
+
+-- where the height of a chamber's cell stands in the state
+abbrev pub cellPlace : Card → (x y : ℤ) → ℕ
+cellPlace c x y = cellAlong (c .dy) (c .rows) y * c .columns + cellAlong (c .dx) (c .columns) x
+
+-- one chamber on the site
+pub record OnSite (c : Card) (x y : ℤ) : Type 0 where
+  pub card : cardFits c ≡ true
+  pub x-fits : alongFits (c .columns * c .dx) x ≡ true
+  pub y-fits : alongFits (c .rows * c .dy) y ≡ true
+
+-- and a state that holds its cell's height
+pub record Wet (c : Card) (s : List ℤ) (x y : ℤ) : Type 0 where
+  pub on : OnSite c x y
+  pub heights : cells c ≤ length s
+
+-- the whole register
+pub record Checked (c : Card) (s xs ys : List ℤ) : Type 0 where
+  pub card : cardFits c ≡ true
+  pub heights : cells c ≤ length s
+  pub same : length xs ≡ length ys
+  pub few : length xs ≤ 1000
+  pub x-fits : allAlong (c .columns * c .dx) xs ≡ true
+  pub y-fits : allAlong (c .rows * c .dy) ys ≡ true
+
+-- a list laid at the front of an old one
+pub record Listed (l old : List ℕ) (count : ℕ) (now : List ℕ) : Type 0 where
+  pub counted : count ≡ length l
+  pub laid : now ≡ l ++ drop (length l) old
+
+-- the register and a draft that takes all of its places
+pub record Ready (c : Card) (s xs ys : List ℤ) (draft : List ℕ) : Type 0 where
+  pub checked : Checked c s xs ys
+  pub draft-long : length draft ≡ 1000
+
+-- what is answered once the checks have passed: 0 and the list, or 8 and the list as lent, and the count in both cases
+pub record Reported (c : Card) (s xs ys : List ℤ) (w : Window) (depth : ℤ) (lent : List ℕ) (r : Found) (left : List ℕ) : Type 0 where
+  pub number : r .number ≡ cond {A = ℕ} (leb (length (listOf c s w depth xs ys)) (length lent)) 0 8
+  pub count : r .count ≡ length (listOf c s w depth xs ys)
+  pub list : left ≡ cond (leb (length (listOf c s w depth xs ys)) (length lent)) (listOf c s w depth xs ys ++ drop (length (listOf c s w depth xs ys)) lent) lent

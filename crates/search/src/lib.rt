@@ -1,0 +1,92 @@
+// Finding chambers: the search over two lists of numbers; `row` has the parts of the search over a row of chamber records.
+mod chamber;
+mod register;
+pub mod row;
+mod window;
+
+ghost use mathlib.Core.Path.{_≡_};
+ghost use lib.ListN.{length};
+ghost use Rattle.rules.specs.Calls.{searchCheck};
+ghost use Rattle.rules.specs.Contracts.{SearchContract};
+ghost use Rattle.search.specs.Checked.{Reported, Ready};
+use rules::Card;
+use rules::Found;
+use rules::Window;
+
+// The first three checks, with what the search asks besides: the lowest number that applies.
+fn search_check(
+    card: Card,
+    ground: &[i32],
+    state: &[i32],
+    xs: &[i64],
+    ys: &[i64],
+    window: Window,
+    depth: i32,
+) -> u32
+    ensures { λ r. ⌜ r ≡ searchCheck card (now (ground .entry)) (now (state .entry)) (now (xs .entry)) (now (ys .entry)) window depth ⌝ }
+{
+    if !site::card_fits(card) {
+        return 1;
+    }
+    let lengths = site::lengths_fit(card, ground, state)
+        & ((xs.len() == ys.len()) & (xs.len() <= 1000));
+    if !lengths {
+        return 2;
+    }
+    let values = site::values_fit(card, ground, state)
+        & register::asked_fits(card, xs, ys, window, depth);
+    if !values {
+        return 3;
+    }
+    0
+}
+
+fn blank() -> [u32; 1000]
+    ensures { λ r. ⌜ length r ≡ 1000 ⌝ }
+{
+    [0; 1000]
+}
+
+// The list made in a draft, and copied where it has room.
+fn report(
+    card: Card,
+    state: &[i32],
+    xs: &[i64],
+    ys: &[i64],
+    window: Window,
+    depth: i32,
+    draft: &mut [u32],
+    found: &mut [u32],
+) -> Found
+    requires { ⌜ Ready card (now state) (now xs) (now ys) (now draft) ⌝ }
+    ensures { λ r. ⌜ Reported card (now (state .entry)) (now (xs .entry)) (now (ys .entry)) window depth (now (found .entry)) r (now (found .exit)) ⌝ }
+{
+    let n = register::list(card, state, window, depth, xs, ys, draft);
+    let count = n as u32;
+    if found.len() < n {
+        return Found { number: 8, count };
+    }
+    register::copy_front(draft, n, found);
+    Found { number: 0, count }
+}
+
+// The search over two lists of numbers.
+pub fn search_lists(
+    card: Card,
+    ground: &[i32],
+    state: &[i32],
+    xs: &[i64],
+    ys: &[i64],
+    window: Window,
+    depth: i32,
+    found: &mut [u32],
+) -> Found
+    ensures { λ r. ⌜ SearchContract card (now (ground .entry)) (now (state .entry)) (now (xs .entry)) (now (ys .entry)) window depth (now (found .entry)) r (now (found .exit)) ⌝ }
+{
+    let number = search_check(card, ground, state, xs, ys, window, depth);
+    if number != 0 {
+        return Found { number, count: 0 };
+    }
+    let mut draft = blank();
+    report(card, state, xs, ys, window, depth, &mut draft, found)
+}

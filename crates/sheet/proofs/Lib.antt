@@ -1,0 +1,4 @@
+pub mod Signed
+pub mod Loops
+pub mod Reading
+pub mod Writing

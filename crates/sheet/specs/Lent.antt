@@ -1,0 +1,31 @@
+-- What the functions of this crate ask of what they are lent.
+use Prim.Native.Nat.{ℕ, _+_, _-_, _≤_}
+use lib.IntN.{ℤ}
+use mathlib.Core.List.{List}
+use mathlib.Core.Path.{_≡_}
+use mathlib.Core.Bool.{true}
+use lib.ListN.{length}
+use Rattle.rules.specs.declared.Card.{Card}
+use Rattle.rules.specs.Site.{cells, stateLength, cardFits}
+use Rattle.sheet.specs.Front.{frontNumber}
+
+-- a field of k bytes from index at on, of at most four bytes
+pub record Field (l : List ℕ) (at k : ℕ) : Type 0 where
+  pub narrow : k ≤ 4
+  pub inside : at + k ≤ length l
+
+-- a card that fits, and room for its header
+pub record Headed (c : Card) (l : List ℕ) : Type 0 where
+  pub card : cardFits c ≡ true
+  pub room : 19 ≤ length l
+
+-- the n words of a card's ground, and its state behind them
+pub record Joined (c : Card) (words : List ℤ) (n : ℕ) : Type 0 where
+  pub card : cardFits c ≡ true
+  pub ground : n ≡ cells c
+  pub both : length words ≡ n + stateLength c
+
+-- a sheet whose values decide, and room for its ground, of n words, and its state
+pub record Ready (l : List ℕ) (n : ℕ) (words : List ℤ) : Type 0 where
+  pub within : n ≤ length words
+  pub front : frontNumber l n (length words - n) ≡ 0

@@ -1,0 +1,193 @@
+// The sheet reader. It looks for 9 first, then 1, 2 and 3. Every word is read into a draft and checked there, and only then are the lent lists filled.
+ghost use mathlib.Core.Path.{_≡_};
+ghost use mathlib.Core.Bool.{true};
+ghost use Prim.Native.Nat.{_+_, _≤_};
+ghost use mathlib.Core.List.{_++_};
+ghost use lib.ListN.{length, take, drop};
+ghost use Rattle.rules.specs.Site.{cells, stateLength, cardFits, valuesFit, readGround, readState};
+ghost use Rattle.rules.specs.Sheet.{cardIn, groundIn, stateIn, headFits, sheetSize, readNumber, noCard};
+ghost use Rattle.rules.specs.Contracts.{ReadContract};
+ghost use Rattle.sheet.specs.Lent.{Joined, Ready};
+ghost use Rattle.sheet.specs.Front.{frontNumber, sheetValuesFit};
+use crate::numbers;
+use rules::Card;
+use rules::Heard;
+
+// Whether the sheet has a whole header, names its own length and is of version 1.
+fn head_fits(sheet: &[u8]) -> bool
+    ensures { λ r. ⌜ r ≡ headFits (now (sheet .entry)) ⌝ }
+{
+    if sheet.len() < 19 {
+        return false;
+    }
+    let named = numbers::number(sheet, 0, 4) as usize;
+    let version = numbers::number(sheet, 4, 1);
+    (named == sheet.len()) & (version == 1)
+}
+
+// The card that stands in a header.
+pub fn card_in(sheet: &[u8]) -> Card
+    requires { ⌜ 19 ≤ length (now sheet) ⌝ }
+    ensures { λ r. ⌜ r ≡ cardIn (now (sheet .entry)) ⌝ }
+{
+    let columns = numbers::number(sheet, 5, 1);
+    let rows = numbers::number(sheet, 6, 1);
+    let dx = numbers::number(sheet, 7, 4);
+    let dy = numbers::number(sheet, 11, 4);
+    let dt = numbers::number(sheet, 15, 2);
+    let steps = numbers::number(sheet, 17, 2);
+    Card {
+        columns,
+        rows,
+        dx,
+        dy,
+        dt,
+        steps,
+    }
+}
+
+// How many bytes the sheet of a card has.
+pub fn sheet_size(card: Card) -> usize
+    requires { ⌜ cardFits card ≡ true ⌝ }
+    ensures { λ r. ⌜ (r ≡ sheetSize card) × (r ≤ 263187) ⌝ }
+{
+    let columns = card.columns as usize;
+    let rows = card.rows as usize;
+    19 + 16 * (rows * columns) + 4 * columns + 4 * rows
+}
+
+// Room for the words of the largest sheet.
+fn blank() -> [i32; 65792]
+    ensures { λ r. ⌜ length r ≡ 65792 ⌝ }
+{
+    [0; 65792]
+}
+
+// The reader's number before it looks at the values: 9, 1 or 2, and 0 where the values decide.
+fn front_number(sheet: &[u8], n: usize, m: usize) -> u32
+    ensures { λ r. ⌜ r ≡ frontNumber (now (sheet .entry)) n m ⌝ }
+{
+    if !head_fits(sheet) {
+        return 9;
+    }
+    let card = card_in(sheet);
+    if !site::card_fits(card) {
+        return 1;
+    }
+    let fits = (sheet.len() == sheet_size(card))
+        & (n == site::cells(card))
+        & (m == site::state_length(card));
+    if !fits {
+        return 2;
+    }
+    0
+}
+
+// Whether a ground of n words and the state behind it pass the check of the values.
+fn words_fit(card: Card, words: &[i32], n: usize) -> bool
+    requires { ⌜ Joined card (now words) n ⌝ }
+    ensures { λ r. ⌜ r ≡ valuesFit card (readGround card (take n (now (words .entry)))) (readState card (drop n (now (words .entry)))) ⌝ }
+{
+    site::values_fit(card, &words[..n], &words[n..])
+}
+
+// Reads the sheet's ground, of n words, and its state behind it, and answers whether they pass the check of the values.
+fn read_words(sheet: &[u8], n: usize, words: &mut [i32]) -> bool
+    requires { ⌜ Ready (now sheet) n (now words) ⌝ }
+    ensures fits { λ r. ⌜ r ≡ sheetValuesFit (now (sheet .entry)) ⌝ }
+    ensures words { λ _. ⌜ now (words .exit) ≡ groundIn (now (sheet .entry)) ++ stateIn (now (sheet .entry)) ⌝ }
+{
+    numbers::get_words(sheet, 19, words);
+    let card = card_in(sheet);
+    words_fit(card, words, n)
+}
+
+// The reader's number for lists of n and m words. Where it is 0, the draft begins with the sheet's ground and state.
+fn look(sheet: &[u8], n: usize, m: usize, draft: &mut [i32]) -> u32
+    requires { ⌜ length (now draft) ≡ 65792 ⌝ }
+    ensures number { λ r. ⌜ r ≡ readNumber (now (sheet .entry)) n m ⌝ }
+    ensures words { λ r. ⌜ (r ≡ 0 → take (n + m) (now (draft .exit)) ≡ groundIn (now (sheet .entry)) ++ stateIn (now (sheet .entry))) ⌝ }
+{
+    let front = front_number(sheet, n, m);
+    if front != 0 {
+        return front;
+    }
+    let end = n + m;
+    if !read_words(sheet, n, &mut draft[..end]) {
+        return 3;
+    }
+    0
+}
+
+// Copies a list over one as long.
+fn copy(from: &[i32], to: &mut [i32])
+    requires { ⌜ length (now to) ≡ length (now from) ⌝ }
+    ensures { λ _. ⌜ now (to .exit) ≡ now (from .entry) ⌝ }
+{
+    for k in 0..from.len() {
+        to[k] = from[k];
+    }
+}
+
+fn no_card() -> Card
+    ensures { λ r. ⌜ r ≡ noCard ⌝ }
+{
+    Card {
+        columns: 0,
+        rows: 0,
+        dx: 0,
+        dy: 0,
+        dt: 0,
+        steps: 0,
+    }
+}
+
+// The reader over a draft.
+fn read_over(sheet: &[u8], ground: &mut [i32], state: &mut [i32], draft: &mut [i32]) -> Heard
+    requires { ⌜ length (now draft) ≡ 65792 ⌝ }
+    ensures { λ r. ⌜ ReadContract (now (sheet .entry)) (now (ground .entry)) (now (state .entry)) r (now (ground .exit)) (now (state .exit)) ⌝ }
+{
+    let n = ground.len();
+    let m = state.len();
+    let number = look(sheet, n, m, draft);
+    if number != 0 {
+        let card = no_card();
+        return Heard { number, card };
+    }
+    let end = n + m;
+    copy(&draft[..n], ground);
+    copy(&draft[n..end], state);
+    let card = card_in(sheet);
+    Heard { number: 0, card }
+}
+
+// The site of a sheet.
+pub fn read_sheet(sheet: &[u8], ground: &mut [i32], state: &mut [i32]) -> Heard
+    ensures { λ r. ⌜ ReadContract (now (sheet .entry)) (now (ground .entry)) (now (state .entry)) r (now (ground .exit)) (now (state .exit)) ⌝ }
+{
+    let mut draft = blank();
+    read_over(sheet, ground, state, &mut draft)
+}
+
+// The reader's number where its lists are cut to the header's size, over a draft.
+fn own_number_over(sheet: &[u8], draft: &mut [i32]) -> u32
+    requires { ⌜ length (now draft) ≡ 65792 ⌝ }
+    ensures { λ r. ⌜ r ≡ readNumber (now (sheet .entry)) (cells (cardIn (now (sheet .entry)))) (stateLength (cardIn (now (sheet .entry)))) ⌝ }
+{
+    if !head_fits(sheet) {
+        return 9;
+    }
+    let card = card_in(sheet);
+    if !site::card_fits(card) {
+        return 1;
+    }
+    look(sheet, site::cells(card), site::state_length(card), draft)
+}
+
+// The reader's number where its lists are cut to the header's size.
+pub fn own_number(sheet: &[u8]) -> u32
+    ensures { λ r. ⌜ r ≡ readNumber (now (sheet .entry)) (cells (cardIn (now (sheet .entry)))) (stateLength (cardIn (now (sheet .entry)))) ⌝ }
+{
+    let mut draft = blank();
+    own_number_over(sheet, &mut draft)
+}

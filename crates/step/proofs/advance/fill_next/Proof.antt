@@ -1,0 +1,121 @@
+use mathlib.Core.Path.{_≡_, _∙_, sym, ap, refl}
+use mathlib.Core.List.{List, _++_}
+use Prim.Native.Nat.{ℕ, _*_, _-_, _≤_}
+use native.Mathlib.Omega.{arith}
+use borrow.Author.Needs.{needs}
+use lib.IntN.{ℤ}
+use lib.ListN.{length, take, drop}
+use lib.Seq.{length-front}
+use Rattle.rules.specs.Site.{readState, writeState}
+use Rattle.rules.specs.Step.{newHeight, next, nextState}
+use Rattle.rules.specs.Grid.{grid}
+use Rattle.laws.specs.Grids.{length-grid}
+use Rattle.laws.specs.Places.{Room, room}
+use Rattle.laws.specs.Parts.{two-parts, length-part, back-length}
+use Rattle.laws.specs.Behind.{front-heights}
+use Rattle.laws.specs.Reading.{long-of}
+use Rattle.step.specs.Tide.{tide}
+use Rattle.step.specs.Velocities.{nextVelocities}
+use Rattle.step.proofs.advance.fill_next.Statement.{statement}
+use Rattle.step.proofs.advance.fill_next.Tie as tie
+
+abbrev cells : tie.Start → ℕ
+cells start = start .args .card .rows * start .args .card .columns
+
+-- the next state and the tide are as long as a state
+next-room : (start : tie.Start) → Room (start .args .card .columns) (start .args .card .rows) (length (start .args .next .now))
+next-room start = room (start .args .card) (start .pre .long)
+
+tide-room : (start : tie.Start) → Room (start .args .card .columns) (start .args .card .rows) (length (start .args .tide .now))
+tide-room start = room (start .args .card) (long-of (start .pre .flowing .tide))
+
+-- and the fronts of both hold the heights
+next-front : (start : tie.Start) → length (take (cells start) (start .args .next .now)) ≡ cells start
+next-front start = length-part (cells start) (start .args .next .now) (next-room start .heights) refl
+
+tide-front : (start : tie.Start) → length (take (cells start) (start .args .tide .now)) ≡ cells start
+tide-front start = length-part (cells start) (start .args .tide .now) (tide-room start .heights) refl
+
+cast-columns : tie.Need-cast-columns
+cast-columns c = search needs
+
+cast-rows : tie.Need-cast-rows
+cast-rows c = search needs
+
+mul-cells : tie.Need-mul-cells
+mul-cells c = omega (arith, next-room (c .before .before))
+
+slice-relend-prefix-copy : tie.Need-slice-relend-prefix-copy
+slice-relend-prefix-copy c = next-room (c .before .before) .heights
+
+slice-aggregate-copy : tie.Need-slice-aggregate-copy
+slice-aggregate-copy c = sym (next-front (c .before .before .before))
+
+slice-aggregate-copy-2 : tie.Need-slice-aggregate-copy-2
+slice-aggregate-copy-2 c = sym (tide-front (c .before .before .before .before))
+
+copy-requires : tie.Need-copy-requires
+copy-requires c κs = let start = c .before .before .before .before in next-front start ∙ sym (tide-front start)
+
+-- the next state with its front filled is as long as before
+abbrev begun : tie.After-next → List ℤ
+begun c = let start = c .before .before .before .before .before .before in c .before .copy .last .0 ++ drop (cells start) (start .args .next .now)
+
+begun-long : (c : tie.After-next) → length (begun c) ≡ length (c .before .before .before .before .before .before .args .next .now)
+begun-long c =
+    let start = c .before .before .before .before .before .before in
+    length-front (start .args .next .now) (c .before .copy .last .0) (cells start) (c .before .copy .kept .0)
+
+mul-velocities : tie.Need-mul-velocities
+mul-velocities c = omega (arith, next-room (c .before .before .before .before .before .before))
+
+sub-velocities : tie.Need-sub-velocities
+sub-velocities c = omega (arith, begun-long c, next-room (c .before .before .before .before .before .before))
+
+part-velocities-start : tie.Need-part-velocities-start
+part-velocities-start c = omega (arith, begun-long c, next-room (c .before .before .before .before .before .before))
+
+part-velocities-end : tie.Need-part-velocities-end
+part-velocities-end c = search needs
+
+velocities-requires : tie.Need-velocities-requires
+velocities-requires c κs =
+    let start = c .before .before .before .before .before .before .before in
+    record {
+      flowing = start .pre .flowing;
+      long = back-length (cells start) (begun (c .before)) ∙ omega (arith, begun-long (c .before), next-room start);
+    }
+
+same-length : tie.Need-same-length
+same-length c = search needs
+
+returns : tie.Need-returns
+unfolding nextState next writeState tide nextVelocities
+returns c =
+    let start = c .before .before .before .before .before .before .before .before .before in
+    let p = start .pre .flowing .tide .is in
+    let heights = c .before .before .before .before .copy .ensures ∙ ap (take (cells start)) p ∙ front-heights (start .args .card) _ in
+    let faces = c .before .velocities .ensures in
+    record {
+      every-one = faces .every-one;
+      is = λ t. two-parts (cells start) (start .args .next .now) heights (faces .is t) (length-grid _ _ _);
+    }
+
+pub fill-next-spec : {M : Type 1} → statement M
+fill-next-spec =
+    tie.close
+    (tie.spec
+    cast-columns
+    cast-rows
+    mul-cells
+    slice-relend-prefix-copy
+    slice-aggregate-copy
+    slice-aggregate-copy-2
+    copy-requires
+    mul-velocities
+    sub-velocities
+    part-velocities-start
+    part-velocities-end
+    velocities-requires
+    same-length
+    returns)

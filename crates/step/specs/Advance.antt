@@ -1,0 +1,26 @@
+-- What one step of a site that passes the first three checks requires of its lists, and what it gives.
+use mathlib.Core.Path.{_≡_}
+use mathlib.Core.List.{List}
+use Prim.Native.Nat.{ℕ}
+use lib.IntN.{ℤ}
+use lib.ListN.{length}
+use Rattle.rules.specs.declared.Card.{Card}
+use Rattle.rules.specs.Site.{stateLength, check}
+use Rattle.rules.specs.Step.{stepNumber, nextState}
+use Rattle.step.specs.Faces.{Flowing}
+
+-- a tide and a next state, both in the state's layout
+pub record Ready (c : Card) (g s t n : List ℤ) : Type 0 where
+  pub passes : check c g s ≡ 0
+  pub tide : length t ≡ stateLength c
+  pub next : length n ≡ stateLength c
+
+-- a next state, where the tide is at hand
+pub record NextRoom (c : Card) (g s t n : List ℤ) : Type 0 where
+  pub flowing : Flowing c g s t
+  pub long : length n ≡ stateLength c
+
+-- its number, and where that is 0, its next state
+pub record Advanced (c : Card) (g s : List ℤ) (r : ℕ) (n : List ℤ) : Type 0 where
+  pub number : r ≡ stepNumber c g s
+  pub state : r ≡ 0 → n ≡ nextState c g s

@@ -1,0 +1,15 @@
+-- The tide of one step, kept in the state's own layout: the new heights, then what crosses each eastward face, then each northward face.
+use mathlib.Core.List.{List, _++_}
+use Prim.Native.Nat.{suc}
+use lib.IntN.{ℤ}
+use Rattle.rules.specs.declared.Card.{Card}
+use Rattle.rules.specs.Grid.{grid}
+use Rattle.rules.specs.Site.{Water}
+use Rattle.rules.specs.Step.{eastTransfer, northTransfer, newHeight}
+
+unfoldable pub tide : Card → Water → Water
+tide c w = record { height = newHeight c w; east = eastTransfer c w; north = northTransfer c w }
+
+-- the part of it behind the heights
+unfoldable pub crossings : Card → Water → List ℤ
+crossings c w = grid (suc (c .columns)) (c .rows) (eastTransfer c w) ++ grid (c .columns) (suc (c .rows)) (northTransfer c w)

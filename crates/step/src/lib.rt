@@ -1,0 +1,55 @@
+// One step of water over a site, for any card, any lists and any words in them.
+pub mod advance;
+mod faces;
+mod heights;
+mod look;
+mod shares;
+mod transfers;
+mod velocities;
+pub mod words;
+
+ghost use mathlib.Core.Path.{_≡_};
+ghost use lib.ListN.{length};
+ghost use Rattle.rules.specs.Contracts.{StepContract};
+ghost use Rattle.step.specs.Draft.{Drafting};
+use rules::Card;
+
+// A list as long as the longest state, of 128 by 128 cells.
+pub fn longest() -> [i32; 49408]
+    ensures { λ r. ⌜ length r ≡ 49408 ⌝ }
+{
+    [0; 49408]
+}
+
+// One step that passes the first three checks, worked out in the draft, so that a refused step leaves the next state as it was lent.
+fn step_by_draft(
+    card: Card,
+    ground: &[i32],
+    state: &[i32],
+    tide: &mut [i32],
+    draft: &mut [i32],
+    next: &mut [i32],
+) -> u32
+    requires { ⌜ Drafting card (now ground) (now state) (now tide) (now draft) (now next) ⌝ }
+    ensures { λ r. ⌜ StepContract card (now (ground .entry)) (now (state .entry)) (now (next .entry)) r (now (next .exit)) ⌝ }
+{
+    let n = next.len();
+    let number = advance::advance(card, ground, state, &mut tide[..n], &mut draft[..n]);
+    if number == 0 {
+        words::copy(next, &draft[..n]);
+    }
+    number
+}
+
+// One step.
+pub fn step(card: Card, ground: &[i32], state: &[i32], next: &mut [i32]) -> u32
+    ensures { λ r. ⌜ StepContract card (now (ground .entry)) (now (state .entry)) (now (next .entry)) r (now (next .exit)) ⌝ }
+{
+    let refusal = site::check_with(card, ground, state, next.len());
+    if refusal == 0 {
+        let mut tide = longest();
+        let mut draft = longest();
+        return step_by_draft(card, ground, state, &mut tide, &mut draft, next);
+    }
+    refusal
+}

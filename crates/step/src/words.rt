@@ -1,0 +1,81 @@
+// Words of a ground and of a state, read and written by column and row; a whole list copied, and cleared.
+ghost use mathlib.Core.Path.{_≡_};
+ghost use Prim.Native.Nat.{_+_, _*_, _<_};
+ghost use lib.IntN.{pos};
+ghost use lib.ListN.{length, getD, set, replicate};
+ghost use Rattle.rules.specs.Site.{readGround, readState};
+ghost use Rattle.step.specs.Places.{GroundPlace, HeightPlace, EastPlace, NorthPlace};
+use rules::Card;
+
+// The word at a column and a row of the grid of so many columns that starts at `base`.
+pub fn word(s: &[i32], base: usize, columns: usize, i: usize, j: usize) -> i32
+    requires { ⌜ base + (j * columns + i) < length (now s) ⌝ }
+    ensures { λ r. ⌜ r ≡ getD (now (s .entry)) (base + (j * columns + i)) (pos 0) ⌝ }
+{
+    s[base + (j * columns + i)]
+}
+
+// Stores a word at a column and a row of a grid of so many columns.
+pub fn put(part: &mut [i32], columns: usize, i: usize, j: usize, v: i32)
+    requires { ⌜ j * columns + i < length (now part) ⌝ }
+    ensures { λ r. ⌜ now (part .exit) ≡ set (now (part .entry)) (j * columns + i) v ⌝ }
+{
+    part[j * columns + i] = v;
+}
+
+// The ground of a cell.
+pub fn ground_at(card: Card, ground: &[i32], i: usize, j: usize) -> i32
+    requires { ⌜ GroundPlace card (now ground) i j ⌝ }
+    ensures { λ r. ⌜ r ≡ readGround card (now (ground .entry)) i j ⌝ }
+{
+    let columns = card.columns as usize;
+    word(ground, 0, columns, i, j)
+}
+
+// The height of a cell.
+pub fn height_at(card: Card, state: &[i32], i: usize, j: usize) -> i32
+    requires { ⌜ HeightPlace card (now state) i j ⌝ }
+    ensures { λ r. ⌜ r ≡ readState card (now (state .entry)) .height i j ⌝ }
+{
+    let columns = card.columns as usize;
+    word(state, 0, columns, i, j)
+}
+
+// What stands at an eastward face.
+pub fn east_at(card: Card, state: &[i32], i: usize, j: usize) -> i32
+    requires { ⌜ EastPlace card (now state) i j ⌝ }
+    ensures { λ r. ⌜ r ≡ readState card (now (state .entry)) .east i j ⌝ }
+{
+    let columns = card.columns as usize;
+    let rows = card.rows as usize;
+    word(state, rows * columns, columns + 1, i, j)
+}
+
+// What stands at a northward face.
+pub fn north_at(card: Card, state: &[i32], i: usize, j: usize) -> i32
+    requires { ⌜ NorthPlace card (now state) i j ⌝ }
+    ensures { λ r. ⌜ r ≡ readState card (now (state .entry)) .north i j ⌝ }
+{
+    let columns = card.columns as usize;
+    let rows = card.rows as usize;
+    word(state, rows * columns + rows * (columns + 1), columns, i, j)
+}
+
+// A copy of a list over one as long.
+pub fn copy(to: &mut [i32], from: &[i32])
+    requires { ⌜ length (now to) ≡ length (now from) ⌝ }
+    ensures { λ r. ⌜ now (to .exit) ≡ now (from .entry) ⌝ }
+{
+    for k in 0..from.len() {
+        to[k] = from[k];
+    }
+}
+
+// Every word 0.
+pub fn clear(s: &mut [i32])
+    ensures { λ r. ⌜ now (s .exit) ≡ replicate (length (now (s .entry))) (pos 0) ⌝ }
+{
+    for k in 0..s.len() {
+        s[k] = 0;
+    }
+}
