@@ -60,7 +60,7 @@ fn height_fits(card: Card, tide: &[i32], i: usize, j: usize) -> bool
     h <= 50000000
 }
 
-// Whether every height is: left at the first that is not.
+// Whether every height is.
 pub fn heights_fit(card: Card, tide: &[i32]) -> bool
     requires { ⌜ TideHeld card (now tide) ⌝ }
     ensures { λ r. ⌜ r ≡ allAt (card .columns) (card .rows) (λ i j. leZ (readState card (now (tide .entry)) .height i j) (pos 50000000)) ⌝ }
@@ -68,12 +68,9 @@ pub fn heights_fit(card: Card, tide: &[i32]) -> bool
     let columns = card.columns as usize;
     let rows = card.rows as usize;
     let mut fit = true;
-    'look: for j in 0..rows {
+    for j in 0..rows {
         for i in 0..columns {
-            if !height_fits(card, tide, i, j) {
-                fit = false;
-                break 'look;
-            }
+            fit = fit & height_fits(card, tide, i, j);
         }
     }
     fit

@@ -1,4 +1,5 @@
-// Refusal 6: whether no own share is negative. A look at the eastward inner faces and one at the northward ones.
+// Refusal 6: whether no own share is negative. A look at the eastward inner faces and one at the northward ones; neither is left early, so that
+// several faces are looked at at once.
 use super::faces;
 use rules::Card;
 ghost use mathlib.Core.Path.{_≡_};
@@ -35,12 +36,9 @@ fn eastward(card: Card, ground: &[i32], state: &[i32], tide: &[i32]) -> bool
     let rows = card.rows as usize;
     let inner = card.columns as usize - 1;
     let mut fit = true;
-    'look: for j in 0..rows {
+    for j in 0..rows {
         for i in 0..inner {
-            if !east_fits(card, ground, state, tide, i, j) {
-                fit = false;
-                break 'look;
-            }
+            fit = fit & east_fits(card, ground, state, tide, i, j);
         }
     }
     fit
@@ -54,12 +52,9 @@ fn northward(card: Card, ground: &[i32], state: &[i32], tide: &[i32]) -> bool
     let columns = card.columns as usize;
     let inner = card.rows as usize - 1;
     let mut fit = true;
-    'look: for j in 0..inner {
+    for j in 0..inner {
         for i in 0..columns {
-            if !north_fits(card, ground, state, tide, i, j) {
-                fit = false;
-                break 'look;
-            }
+            fit = fit & north_fits(card, ground, state, tide, i, j);
         }
     }
     fit

@@ -1,93 +1,84 @@
 -- `step::shares::eastward` meets its contract.
-use mathlib.Core.Path.{sym, _∙_}
 use Prim.Native.Nat.{_-_}
 use native.Mathlib.Omega.{arith}
 use borrow.Author.Needs.{needs}
-use borrow.Author.Tests.{not-true, not-false}
-use Rattle.laws.specs.Looks.{RowsPass, CellsPass, begin, begin-row, more, more-rows, done, broke}
+use Rattle.laws.specs.Gather.{RowsGathered, CellsGathered, rows-none, row-none, row-more, rows-more, rows-all}
 use Rattle.step.specs.Shares.{eastShareFits}
 use Rattle.step.proofs.Around.{sound-of}
 use Rattle.step.proofs.Sites.{facts}
 use Rattle.step.proofs.shares.eastward.Statement.{statement}
 use Rattle.step.proofs.shares.eastward.Tie as tie
 
+abbrev Inv-loop2 : tie.InvT-loop2
+Inv-loop2 card ground state tide rows inner fit₀ j i₀ fit i = CellsGathered inner (eastShareFits card ground state) j fit i
+
+abbrev μ-loop2 : tie.MeasureT-loop2
+μ-loop2 card ground state tide rows inner fit₀ j i₀ fit i = inner - i
+
 abbrev Inv-loop : tie.InvT-loop
-Inv-loop card ground state tide rows inner fit₀ j i₀ fit i = CellsPass inner rows (eastShareFits card ground state) j fit i
+Inv-loop card ground state tide rows inner fit₀ j₀ fit j = RowsGathered inner rows (eastShareFits card ground state) fit j
 
 abbrev μ-loop : tie.MeasureT-loop
-μ-loop card ground state tide rows inner fit₀ j i₀ fit i = inner - i
+μ-loop card ground state tide rows inner fit₀ j₀ fit j = rows - j
 
-abbrev Inv-look : tie.InvT-look
-Inv-look card ground state tide rows inner fit₀ j₀ fit j = RowsPass inner rows (eastShareFits card ground state) fit j
-
-abbrev μ-look : tie.MeasureT-look
-μ-look card ground state tide rows inner fit₀ j₀ fit j = rows - j
-
-cast-rows : tie.Need-cast-rows Inv-loop μ-loop Inv-look μ-look
+cast-rows : tie.Need-cast-rows Inv-loop2 μ-loop2 Inv-loop μ-loop
 cast-rows c = search needs
 
-cast-inner : tie.Need-cast-inner Inv-loop μ-loop Inv-look μ-look
+cast-inner : tie.Need-cast-inner Inv-loop2 μ-loop2 Inv-loop μ-loop
 cast-inner c = search needs
 
-sub-inner : tie.Need-sub-inner Inv-loop μ-loop Inv-look μ-look
+sub-inner : tie.Need-sub-inner Inv-loop2 μ-loop2 Inv-loop μ-loop
 sub-inner c = let card = facts (sound-of (c .before .before .pre)) .card in omega arith
 
-look-holds : tie.Need-look-holds Inv-loop μ-loop Inv-look μ-look
-look-holds c = begin
+loop-holds : tie.Need-loop-holds Inv-loop2 μ-loop2 Inv-loop μ-loop
+loop-holds c = rows-none
 
-loop-holds : tie.Need-loop-holds Inv-loop μ-loop Inv-look μ-look
-loop-holds c = begin-row (c .before .look .inv)
+loop2-holds : tie.Need-loop2-holds Inv-loop2 μ-loop2 Inv-loop μ-loop
+loop2-holds c = row-none (c .before .loop .inv)
 
-east-fits-requires : tie.Need-east-fits-requires Inv-loop μ-loop Inv-look μ-look
+east-fits-requires : tie.Need-east-fits-requires Inv-loop2 μ-loop2 Inv-loop μ-loop
 east-fits-requires c κs =
     record { flowing = c .before .before .before .before .before .before .pre; column = omega arith; row = omega arith }
 
-add-i : tie.Need-add-i Inv-loop μ-loop Inv-look μ-look
+add-i : tie.Need-add-i Inv-loop2 μ-loop2 Inv-loop μ-loop
 add-i c = omega arith
 
-loop-less : tie.Need-loop-less Inv-loop μ-loop Inv-look μ-look
-loop-less c = omega arith
+loop2-less : tie.Need-loop2-less Inv-loop2 μ-loop2 Inv-loop μ-loop
+loop2-less c = omega arith
 
-loop-again : tie.Need-loop-again Inv-loop μ-loop Inv-look μ-look
-loop-again c =
-    more (c .before .before .before .loop .inv) (c .before .before .loop-test .taken) (sym (c .before .east-fits .ensures) ∙ not-false _ (c .if1 .left))
+loop2-again : tie.Need-loop2-again Inv-loop2 μ-loop2 Inv-loop μ-loop
+loop2-again c = row-more (c .before .before .loop2 .inv) (c .before .loop2-test .taken) (c .east-fits .ensures)
 
-add-j : tie.Need-add-j Inv-loop μ-loop Inv-look μ-look
+add-j : tie.Need-add-j Inv-loop2 μ-loop2 Inv-loop μ-loop
 add-j c = omega arith
 
-look-less : tie.Need-look-less Inv-loop μ-loop Inv-look μ-look
-look-less c = omega arith
+loop-less : tie.Need-loop-less Inv-loop2 μ-loop2 Inv-loop μ-loop
+loop-less c = omega arith
 
-look-again : tie.Need-look-again Inv-loop μ-loop Inv-look μ-look
-look-again c = more-rows (c .before .loop .inv) (c .before .before .look-test .taken) (c .loop-test .left)
+loop-again : tie.Need-loop-again Inv-loop2 μ-loop2 Inv-loop μ-loop
+loop-again c = rows-more (c .before .loop2 .inv) (c .before .before .loop-test .taken) (c .loop2-test .left)
 
-returns : tie.Need-returns Inv-loop μ-loop Inv-look μ-look
-returns c = done (c .before .look .inv) (c .look-test .left)
-
-returns-2 : tie.Need-returns-2 Inv-loop μ-loop Inv-look μ-look
-returns-2 c =
-    broke (eastShareFits _ _ _) (c .before .before .before .before .look-test .taken) (c .before .before .loop-test .taken)
-    (sym (c .before .east-fits .ensures) ∙ not-true _ (c .if1 .taken))
+returns : tie.Need-returns Inv-loop2 μ-loop2 Inv-loop μ-loop
+returns c = rows-all (c .before .loop .inv) (c .loop-test .left)
 
 pub eastward-spec : {M : Type 1} → statement M
 eastward-spec =
     tie.close
     (tie.spec
+    Inv-loop2
+    μ-loop2
     Inv-loop
     μ-loop
-    Inv-look
-    μ-look
     cast-rows
     cast-inner
     sub-inner
-    look-holds
     loop-holds
+    loop2-holds
     east-fits-requires
     add-i
+    loop2-less
+    loop2-again
+    add-j
     loop-less
     loop-again
-    add-j
-    look-less
-    look-again
-    returns
-    returns-2)
+    returns)
