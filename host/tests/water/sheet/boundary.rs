@@ -44,15 +44,16 @@ fn the_smallest_and_the_largest() {
     }
 }
 
-/// Each byte of a good sheet set to each of its other 255 values.
+/// Each byte of a good sheet set to each of its other 255 values; of larger sheets, each bit of each byte.
 #[test]
 fn each_byte_damaged() {
-    for (columns, rows) in [(1, 1), (2, 2), (3, 1)] {
+    let bits: Vec<u8> = (0..8).map(|bit| 1 << bit).collect();
+    for (columns, rows, changes) in [(1, 1, (1..=255).collect()), (2, 2, bits.clone()), (3, 1, bits.clone()), (5, 4, bits)] {
         let rng = &mut Rng::new(7);
         let good = sheet_of(rng, &filled(columns, rows));
         let mut given = Given::default();
         for place in 0..good.len() {
-            for change in 1..=255 {
+            for change in &changes {
                 let mut sheet = good.clone();
                 sheet[place] ^= change;
                 given.count(read(rng, &sheet, columns, rows).0.number);
