@@ -11,7 +11,7 @@ use Rattle.rules.specs.Site.{Water, heightFits, depthsFit}
 use Rattle.rules.specs.Step.{transfer, eastTransfer, northTransfer, withinLimit, limitKept, newHeight}
 use Rattle.laws.specs.Tests.{and-left, and-right}
 use Rattle.laws.specs.Numbers.{abs-neg}
-use Rattle.laws.specs.Sizes.{Within, within-add, within-sub, within-order}
+use Rattle.laws.specs.Sizes.{Within, within-order}
 use Rattle.laws.specs.Grids.{allAt-at}
 use Rattle.laws.specs.Limit.{leaves, sends, not-below}
 
@@ -70,9 +70,3 @@ module _ (c : Card) (w : Water) (sideX : 0 < c .dx) (sideY : 0 < c .dy) (depths 
 
   pub new-low : (i j : ℕ) → i < c .columns → j < c .rows → T (leZ (pos 0) (newHeight c w i j))
   new-low i j hi hj = not-below c w i j sideX sideY (low i j hi hj) (within-limit i j hi hj)
-
-  pub new-within : (i j : ℕ) → i < c .columns → j < c .rows → Within 250000000 (newHeight c w i j)
-  unfolding newHeight
-  new-within i j hi hj =
-      within-sub (within-add (within-sub (within-add (old-within i j hi hj) (east-within i j (omega arith) hj)) (east-within (suc i) j hi hj)) (north-within i j hi (omega arith)))
-      (north-within i (suc j) hi hj)

@@ -105,9 +105,6 @@ pub all-more : (n : ℕ) (p : ℕ → Bool) → T (all n p) → T (p n) → T (a
 unfolding all
 all-more n p t u = rw add-one (and-both (all n p) (p n) t u)
 
-pub all-broken : (n : ℕ) (p : ℕ → Bool) (i : ℕ) → i < n → T (not (p i)) → all n p ≡ false
-all-broken n p i h u = false-of (all n p) (not-T (all n p) (λ t. T-not (p i) u (all-at n p t i h)))
-
 pub allAt-more : (m n : ℕ) (p : ℕ → ℕ → Bool) → T (allAt m n p) → T (all m (λ i. p i n)) → T (allAt m (n + 1) p)
 unfolding allAt
 allAt-more m n p t u = all-more n (λ j. all m (λ i. p i j)) t u

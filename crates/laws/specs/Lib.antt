@@ -34,7 +34,6 @@ pub mod Bounded
 pub mod Tested
 pub mod Velocities
 pub mod Behind
-pub mod Linear
 pub mod Rising
 pub mod Asked
 pub mod Fronts

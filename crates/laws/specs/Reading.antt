@@ -1,19 +1,16 @@
 -- A list that holds a water in a state's layout, read by index: which place the word is of.
 use Prim.Native.Nat.{ℕ, suc, _+_, _*_, _≤_, _<_}
-use mathlib.Core.Path.{_≡_, sym, ap, _∙_}
+use mathlib.Core.Path.{_≡_, ap, _∙_}
 use mathlib.Core.List.{List}
 use lib.IntN.{ℤ, pos}
 use lib.ListN.{length, getD}
 use Rattle.rules.specs.declared.Card.{Card}
 use Rattle.rules.specs.Site.{Water, readState, writeState, stateLength}
-use Rattle.laws.specs.States.{height-back, east-back, north-back, length-state, write-read}
+use Rattle.laws.specs.States.{height-back, east-back, north-back, length-state}
 
 -- a record, so that the card and the water are inferred from it
 pub record Holds (c : Card) (w : Water) (l : List ℤ) : Type 0 where
   pub is : l ≡ writeState c w
-
-pub holds-state : {c : Card} {s : List ℤ} → length s ≡ stateLength c → Holds c (readState c s) s
-holds-state {c} {s} long = record { is = sym (write-read c s long) }
 
 module _ {c : Card} {w : Water} {l : List ℤ} (h : Holds c w l) where
   pub long-of : length l ≡ stateLength c

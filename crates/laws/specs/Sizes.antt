@@ -64,9 +64,6 @@ pub within-quot : {N : ℕ} {x : ℤ} (m n k : ℕ) → Within N x → N ≤ m *
 within-quot {x} m n k p h l =
     record { size = le-trans (le-of-eq (natAbs-quot x (pos n))) (div-le-of-le-mul n (le-trans (p .size) (le-trans h (mul-le-mul-right k l)))) }
 
-pub within-le : {N M : ℕ} {x : ℤ} → Within N x → N ≤ M → Within M x
-within-le p h = record { size = le-trans (p .size) h }
-
 -- between 0 and N
 pub within-order : {N : ℕ} (z : ℤ) → T (leZ (pos 0) z) → T (leZ z (pos N)) → Within N z
 within-order {N} (pos n) l h = record { size = leb→le n N h }
