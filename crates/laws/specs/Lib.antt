@@ -40,3 +40,4 @@ pub mod Asked
 pub mod Fronts
 pub mod Listings
 pub mod Signs
+pub mod Swapped
