@@ -39,3 +39,4 @@ pub mod Asked
 pub mod Fronts
 pub mod Listings
 pub mod Signs
+pub mod Swapped

@@ -20,14 +20,14 @@ abbrev μ-loop : tie.MeasureT-loop
 loop-holds : tie.Need-loop-holds Inv-loop μ-loop
 loop-holds c = (refl, omega arith, refl, in-start _ _)
 
-mul-number : tie.Need-mul-number Inv-loop μ-loop
-mul-number c = omega arith
+mul-word : tie.Need-mul-word Inv-loop μ-loop
+mul-word c = omega arith
 
-add-number : tie.Need-add-number Inv-loop μ-loop
-add-number c = omega arith
+add-word : tie.Need-add-word Inv-loop μ-loop
+add-word c = omega arith
 
-number-requires : tie.Need-number-requires Inv-loop μ-loop
-number-requires c κs = record { narrow = omega arith; inside = omega arith }
+word-requires : tie.Need-word-requires Inv-loop μ-loop
+word-requires c κs = omega arith
 
 value-of-requires : tie.Need-value-of-requires Inv-loop μ-loop
 value-of-requires c κs = tt
@@ -48,7 +48,7 @@ loop-again : tie.Need-loop-again Inv-loop μ-loop
 loop-again c =
     let l = c .before .before .before .loop in
     let a = c .before .before .before .before .before .args in
-    let word = toZ-ofZ w32 (c .value-of .result) (record { sfits = c .value-of .ok }) ∙ c .value-of .ensures ∙ ap valueOf (c .before .number .ensures) in
+    let word = toZ-ofZ w32 (c .value-of .result) (record { sfits = c .value-of .ok }) ∙ c .value-of .ensures ∙ ap valueOf (c .before .word .ensures) in
     (refl, omega arith, length-set (l .words) (l .i) _ ∙ l .inv .2, in-turn (a .words .now) (l .words) (l .i) (a .at) (a .s .now) _ (omega arith) (l .inv .3) word)
 
 same-length : tie.Need-same-length Inv-loop μ-loop
@@ -67,9 +67,9 @@ get-words-spec =
     Inv-loop
     μ-loop
     loop-holds
-    mul-number
-    add-number
-    number-requires
+    mul-word
+    add-word
+    word-requires
     value-of-requires
     mul-t11
     slice-set-from-words

@@ -27,17 +27,17 @@ mul-z c = omega arith
 shared-slice-copy-out-z : tie.Need-shared-slice-copy-out-z Inv-loop μ-loop
 shared-slice-copy-out-z c = omega arith
 
-mul-put-number : tie.Need-mul-put-number Inv-loop μ-loop
-mul-put-number c = omega arith
+mul-put-word : tie.Need-mul-put-word Inv-loop μ-loop
+mul-put-word c = omega arith
 
-add-put-number : tie.Need-add-put-number Inv-loop μ-loop
-add-put-number c = omega arith
+add-put-word : tie.Need-add-put-word Inv-loop μ-loop
+add-put-word c = omega arith
 
 bits-of-requires : tie.Need-bits-of-requires Inv-loop μ-loop
 bits-of-requires c κs = tt
 
-put-number-requires : tie.Need-put-number-requires Inv-loop μ-loop
-put-number-requires c κs = omega arith
+put-word-requires : tie.Need-put-word-requires Inv-loop μ-loop
+put-word-requires c κs = omega arith
 
 add-i : tie.Need-add-i Inv-loop μ-loop
 add-i c = omega arith
@@ -52,7 +52,7 @@ loop-again c =
     let l = z .before .before .loop in
     let a = z .before .before .before .before .args in
     let word = toZ-ofZ w32 (getD (a .words .now) (l .i) (pos 0)) (record { sfits = z .z .given }) in
-    (refl, omega arith, w .put-number .kept .0 ∙ l .inv .2, words-turn (a .words .now) (a .out .now) (l .out) _ (a .at) (l .i) (w .before .bits-of .result) (omega arith) (omega arith) (l .inv .3) (w .before .bits-of .ensures ∙ ap bitsOf word) (w .put-number .ensures))
+    (refl, omega arith, w .put-word .kept .0 ∙ l .inv .2, words-turn (a .words .now) (a .out .now) (l .out) _ (a .at) (l .i) (w .before .bits-of .result) (omega arith) (omega arith) (l .inv .3) (w .before .bits-of .ensures ∙ ap bitsOf word) (w .put-word .ensures))
 
 same-length : tie.Need-same-length Inv-loop μ-loop
 same-length c = c .before .loop .inv .2
@@ -72,10 +72,10 @@ put-words-spec =
     loop-holds
     mul-z
     shared-slice-copy-out-z
-    mul-put-number
-    add-put-number
+    mul-put-word
+    add-put-word
     bits-of-requires
-    put-number-requires
+    put-word-requires
     add-i
     loop-less
     loop-again
