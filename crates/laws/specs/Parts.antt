@@ -1,11 +1,10 @@
 -- A list that is lent in parts, `&mut l[..a]` and then `&mut l[a..]`: how long each part is, and what the whole holds at the end.
-use mathlib.Core.Path.{_≡_, _∙_, ap, refl}
+use mathlib.Core.Path.{_≡_, _∙_, ap}
 use mathlib.Core.List.{List, _++_, append-nil}
 use Prim.Native.Nat.{ℕ, _-_, _≤_}
-use native.Mathlib.Nat.{sub-zero}
 use native.Mathlib.Omega.{arith}
 use lib.ListN.{length, take, drop, length-append, length-drop, drop-of-length-le}
-use lib.Seq.{take-at, drop-at, length-take-le, take-all}
+use lib.Seq.{take-at, drop-at, length-take-le}
 use borrow.Rule.Slice.PartMut.{putMid}
 
 module _ {A : Type 0} where
@@ -21,21 +20,9 @@ module _ {A : Type 0} where
       ∙ ap (λ (t : List A). g ++ (h ++ t)) (drop-of-length-le (drop a old) k)
       ∙ ap (λ (t : List A). g ++ t) (append-nil h))
 
-  -- a whole list, filled at its front, and then lent as `&mut l[a..]`
-  pub back-filled : (a : ℕ) (old g : List A) {whole last h : List A} → whole ≡ g ++ drop a old → last ≡ h → length g ≡ a
-      → putMid a (length whole - a) whole last ≡ g ++ h
-  back-filled a old g {whole} {last} {h} e f l = rw e (two-parts a old {first = g} {last = last} refl f l)
-
   -- a part is as long as it should be
   pub length-part : (k : ℕ) (l : List A) {m : ℕ} → k ≤ length l → k ≡ m → length (take k l) ≡ m
   length-part k l h e = length-take-le k l h ∙ e
-
-  -- what `&l[0..n]` and `&l[a..]` hold, as a callee that is lent them says it
-  pub front-part : (n : ℕ) (l : List A) → take (n - 0) l ≡ take n l
-  front-part n l = ap (λ (k : ℕ). take k l) (sub-zero n)
-
-  pub back-part : (a : ℕ) (l : List A) → take (length l - a) (drop a l) ≡ drop a l
-  back-part a l = take-all (length l - a) (drop a l) (omega (arith, length-drop a l))
 
   -- how long `&l[a..]` is
   pub back-length : (a : ℕ) (l : List A) → length (take (length l - a) (drop a l)) ≡ length l - a
