@@ -24,6 +24,7 @@ fn main() {
              host/check shows how, and does it."
         ));
     }
+    let folder = folder.canonicalize().expect("a folder with a file in it");
     println!("cargo:rustc-link-search=native={}", folder.display());
     println!("cargo:rustc-link-lib=static=water");
 }
