@@ -2,7 +2,6 @@
 use mathlib.Core.Path.{_≡_, _∙_, ap}
 use mathlib.Core.List.{List, _++_, append-nil}
 use Prim.Native.Nat.{ℕ, _-_, _≤_}
-use native.Mathlib.Nat.{sub-zero}
 use native.Mathlib.Omega.{arith}
 use lib.ListN.{length, take, drop, length-append, length-drop, drop-of-length-le}
 use lib.Seq.{take-at, drop-at, length-take-le}
@@ -24,10 +23,6 @@ module _ {A : Type 0} where
   -- a part is as long as it should be
   pub length-part : (k : ℕ) (l : List A) {m : ℕ} → k ≤ length l → k ≡ m → length (take k l) ≡ m
   length-part k l h e = length-take-le k l h ∙ e
-
-  -- what `&l[0..n]` and `&l[a..]` hold, as a callee that is lent them says it
-  pub front-part : (n : ℕ) (l : List A) → take (n - 0) l ≡ take n l
-  front-part n l = ap (λ (k : ℕ). take k l) (sub-zero n)
 
   -- how long `&l[a..]` is
   pub back-length : (a : ℕ) (l : List A) → length (take (length l - a) (drop a l)) ≡ length l - a

@@ -9,7 +9,7 @@ use lib.IntN.{ℤ, pos}
 use lib.ListN.{getD}
 use lib.Arith.{digits-lt}
 use Rattle.rules.specs.declared.Card.{Card}
-use Rattle.rules.specs.Site.{stateLength, readGround, readState}
+use Rattle.rules.specs.Site.{stateLength, readState}
 
 -- the parts of a list that is as long as a state, as the code counts them
 pub record Room (columns rows n : ℕ) : Type 0 where
@@ -35,12 +35,8 @@ module _ (c : Card) {n i j : ℕ} (e : n ≡ stateLength c) where
       let k : j < c .rows + 1 = omega arith in
       omega (arith, room c e, digits-lt k hi)
 
--- and what stands there is what `readGround` and `readState` read
+-- and what stands there is what `readState` reads
 module _ (c : Card) (s : List ℤ) (i j : ℕ) where
-  pub ground-read : getD s (0 + (j * c .columns + i)) (pos 0) ≡ readGround c s i j
-  unfolding readGround
-  ground-read = rw zero-add
-
   pub height-read : getD s (0 + (j * c .columns + i)) (pos 0) ≡ readState c s .height i j
   unfolding readState
   height-read = rw zero-add

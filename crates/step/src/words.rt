@@ -1,10 +1,10 @@
-// Words of a ground and of a state, read and written by column and row; a whole list copied, and cleared.
+// Words of a state, read and written by column and row; a whole list copied, and cleared.
 ghost use mathlib.Core.Path.{_≡_};
 ghost use Prim.Native.Nat.{_+_, _*_, _<_};
 ghost use lib.IntN.{pos};
 ghost use lib.ListN.{length, getD, set, replicate};
-ghost use Rattle.rules.specs.Site.{readGround, readState};
-ghost use Rattle.step.specs.Places.{GroundPlace, HeightPlace, EastPlace, NorthPlace};
+ghost use Rattle.rules.specs.Site.{readState};
+ghost use Rattle.step.specs.Places.{HeightPlace, EastPlace, NorthPlace};
 use rules::Card;
 
 // The word at a column and a row of the grid of so many columns that starts at `base`.
@@ -21,15 +21,6 @@ pub fn put(part: &mut [i32], columns: usize, i: usize, j: usize, v: i32)
     ensures { λ r. ⌜ now (part .exit) ≡ set (now (part .entry)) (j * columns + i) v ⌝ }
 {
     part[j * columns + i] = v;
-}
-
-// The ground of a cell.
-pub fn ground_at(card: Card, ground: &[i32], i: usize, j: usize) -> i32
-    requires { ⌜ GroundPlace card (now ground) i j ⌝ }
-    ensures { λ r. ⌜ r ≡ readGround card (now (ground .entry)) i j ⌝ }
-{
-    let columns = card.columns as usize;
-    word(ground, 0, columns, i, j)
 }
 
 // The height of a cell.

@@ -1,14 +1,13 @@
 use mathlib.Core.Path.{_≡_, _∙_, sym, ap, refl}
 use mathlib.Core.List.{List, _++_}
-use Prim.Native.Nat.{ℕ, _*_, _-_, _≤_}
+use Prim.Native.Nat.{ℕ, _*_}
 use native.Mathlib.Omega.{arith}
 use borrow.Author.Needs.{needs}
 use lib.IntN.{ℤ}
 use lib.ListN.{length, take, drop}
 use lib.Seq.{length-front}
-use Rattle.rules.specs.Site.{readState, writeState}
-use Rattle.rules.specs.Step.{newHeight, next, nextState}
-use Rattle.rules.specs.Grid.{grid}
+use Rattle.rules.specs.Site.{writeState}
+use Rattle.rules.specs.Step.{next, nextState}
 use Rattle.laws.specs.Grids.{length-grid}
 use Rattle.laws.specs.Places.{Room, room}
 use Rattle.laws.specs.Parts.{two-parts, length-part, back-length}
