@@ -7,7 +7,7 @@ use native.Mathlib.Omega.{arith}
 use borrow.Author.Tests.{ltb-true, leb-true, leb-false, le-leb, lt-leb}
 use lib.Dec.{T, leb·suc-zero}
 use lib.IntN.{ℤ, pos, negsuc, negℤ, natAbs, _*ℤ_}
-use lib.Signed.{leZ, ltZ, nonNeg, quotZ}
+use lib.Signed.{leZ, ltZ, quotZ}
 use Rattle.rules.specs.Site.{speedFits}
 use Rattle.rules.specs.Step.{transfer, positive}
 use Rattle.laws.specs.Numbers.{neg-mul, neg-quot}
@@ -37,15 +37,6 @@ pub positive-no : (x : ℤ) → ltZ x (pos 0) ≡ false → positive x ≡ x
 unfolding positive
 positive-no (pos n) e = refl
 positive-no (negsuc n) e = let z : _≡_ {A = ℕ} 0 1 = cc in absurd (omega arith)
-
--- a number below 0, turned, and one not below 0
-pub turned-up : (x : ℤ) → ltZ x (pos 0) ≡ true → T (nonNeg (negℤ x))
-turned-up (pos n) e = let h = ltb-true n 0 e in absurd (omega arith)
-turned-up (negsuc n) e = tt
-
-pub not-below : (x : ℤ) → ltZ x (pos 0) ≡ false → T (nonNeg x)
-not-below (pos n) e = tt
-not-below (negsuc n) e = let z : _≡_ {A = ℕ} 0 1 = cc in absurd (omega arith)
 
 -- a range is a bound on the size
 pub fits-yes : (v : ℤ) → leZ (negsuc 19999999) v ≡ true → leZ v (pos 20000000) ≡ speedFits v

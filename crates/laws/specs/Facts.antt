@@ -185,6 +185,11 @@ check-facts c g s e =
     let p = apart (cardFits c) (lengthsFit c g s) (valuesFit c (readGround c g) (readState c s)) e in
     value-facts c g s (record { card = p .card; lengths = p .lengths }) (p .values)
 
+-- the card by itself
+pub check-card : (c : Card) (g s : List ℤ) → check c g s ≡ 0 → cardFits c ≡ true
+unfolding check
+check-card c g s e = apart (cardFits c) (lengthsFit c g s) (valuesFit c (readGround c g) (readState c s)) e .card
+
 -- and the one more list is as long as the state
 pub check-with-facts : (c : Card) (g s : List ℤ) (room : ℕ) → checkWith c g s room ≡ 0 → Fits c g s × (room ≡ stateLength c)
 unfolding checkWith

@@ -72,7 +72,8 @@ pub record Read (l : List ℕ) (n m : ℕ) : Type 0 where
   pub sizes : Sizes l n m
   pub values : valuesFit (cardIn l) (readGround (cardIn l) (groundIn l)) (readState (cardIn l) (stateIn l)) ≡ true
 
-passed : (b : Bool) (x k : ℕ) → cond b x (suc k) ≡ 0 → (b ≡ true) × (x ≡ 0)
+-- a number that is 0 behind a test that refuses: the test passed
+pub passed : (b : Bool) (x k : ℕ) → cond b x (suc k) ≡ 0 → (b ≡ true) × (x ≡ 0)
 passed true x k e = (refl, e)
 passed false x k e = absurd (suc-ne-zero k e)
 

@@ -1,9 +1,9 @@
 -- The player's number, what is printed by it, and the site that is run.
 use Prim.Native.Nat.{ℕ, suc, _≤_, _<_}
-use mathlib.Core.Path.{_≡_, refl, sym, ap, ap₂, _∙_}
+use mathlib.Core.Path.{_≡_, sym, ap, ap₂, _∙_}
 use mathlib.Core.Bool.{Bool, true, false, cond, _&&_}
 use mathlib.Core.List.{List}
-use native.Mathlib.Nat.{mul-le-mul, suc-ne-zero}
+use native.Mathlib.Nat.{mul-le-mul}
 use native.Mathlib.Omega.{arith}
 use lib.Dec.{leb, leb→le}
 use lib.IntN.{ℤ}
@@ -18,15 +18,11 @@ use Rattle.rules.specs.Play.{refusedLine, playedText, played, ownNumber, playNu
 use Rattle.laws.specs.Tests.{to-T, and-left, and-right}
 use Rattle.laws.specs.Facts.{check-own}
 use Rattle.laws.specs.Outcomes.{first-refused, first-passed, both-passed, if-done, if-refused}
-use Rattle.laws.specs.Sheets.{Read, read-facts, length-state-in}
+use Rattle.laws.specs.Sheets.{Read, passed, read-facts, length-state-in}
 
 -- columns and rows do not exceed 32
 abbrev pub small : Card → Bool
 small c = leb (c .columns) 32 && leb (c .rows) 32
-
-passed : (b : Bool) (x k : ℕ) → cond b x (suc k) ≡ 0 → (b ≡ true) × (x ≡ 0)
-passed true x k e = (refl, e)
-passed false x k e = absurd (suc-ne-zero k e)
 
 module _ (l : List ℕ) where
   -- ---- the number, as the code comes to it

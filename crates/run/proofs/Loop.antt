@@ -1,6 +1,5 @@
 -- What the loop over a run's steps keeps, and one law for each of its needs.
 use mathlib.Core.Path.{_≡_, refl, sym, ap, _∙_, subst}
-use mathlib.Core.Bool.{true}
 use mathlib.Core.List.{List}
 use Prim.Native.Nat.{ℕ, _+_, _≤_, _<_}
 use native.Mathlib.Omega.{arith}
@@ -9,10 +8,9 @@ use lib.ListN.{length, getD}
 use Rattle.rules.specs.declared.Card.{Card}
 use Rattle.rules.specs.declared.Tally.{Tally}
 use Rattle.rules.specs.Grid.{greatest}
-use Rattle.rules.specs.Site.{cells, stateLength, cardFits, check}
+use Rattle.rules.specs.Site.{cells, stateLength, check}
 use Rattle.rules.specs.Step.{stepNumber, nextState}
 use Rattle.rules.specs.Run.{Outcome, peak, started, accepted, stoppedFor, runAfter, runAll}
-use Rattle.laws.specs.Checks.{apart}
 use Rattle.laws.specs.Facts.{check-facts}
 use Rattle.laws.specs.Keeps.{keeps}
 use Rattle.laws.specs.Runs.{LeadsTo, leads-from, leads-on, leads-nowhere, led}
@@ -25,10 +23,6 @@ pub record Running (c : Card) (g s₀ s : List ℤ) (t : Tally) (done : ℕ) : T
   pub most : done ≤ c .steps
   pub counted : t .steps ≡ done
   pub leads : LeadsTo c g (c .steps) done t s (runAll c g s₀)
-
-pub card-true : (c : Card) (g s : List ℤ) → check c g s ≡ 0 → cardFits c ≡ true
-unfolding check
-card-true c g s e = apart _ _ _ e .card
 
 pub cells-held : (c : Card) (g s : List ℤ) → check c g s ≡ 0 → cells c ≤ length s
 unfolding stateLength

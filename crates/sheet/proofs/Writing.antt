@@ -37,10 +37,6 @@ module _ (c : Card) (g s : List ℤ) (room r : ℕ) (e : r ≡ check c g s) wher
     unfolding writeNumber
     write-0 h = sym (first-passed (check c g s) _ (sym e ∙ z) ∙ ap (λ (b : Bool). cond b 0 8) (le-leb (sheetSize c) room h))
 
-pub check-card : (c : Card) (g s : List ℤ) → check c g s ≡ 0 → cardFits c ≡ true
-unfolding check
-check-card c g s e = apart (cardFits c) (lengthsFit c g s) (valuesFit c (readGround c g) (readState c s)) e .card
-
 -- a site that is written, and has room
 pub record Clean (c : Card) (g s : List ℤ) (room : ℕ) : Type 0 where
   pub card : cardFits c ≡ true

@@ -16,6 +16,7 @@ use lib.Dec.{T}
 use borrow.Author.Tests.{ltb-true, lt-ltb, le-ltb, le-leb, lt-leb, eq-eqb, ne-eqb}
 use Rattle.rules.specs.Text.{decimal, heightText, depthText, fitted, dry, underOne, cm}
 use Rattle.laws.specs.Decimals.{length-decimal}
+use Rattle.laws.specs.Signs.{not-under}
 use Rattle.rules.specs.Calls.{textPart, textScratch}
 use Rattle.text.specs.Put.{Put}
 
@@ -131,10 +132,6 @@ unfolding depthText
 neg-none (pos n) t = let l : n < 0 = ltb-true n 0 t in absurd (clash l)
 neg-none (negsuc n) t = refl
 
-not-neg : (z : ℤ) → ltZ z (pos 0) ≡ false → T (nonNeg z)
-not-neg (pos n) t = tt
-not-neg (negsuc n) t = subst T t tt
-
 abs-fits : (z : ℤ) → SFits w32 z → Fits w32 (natAbs z)
 abs-fits (pos n) f = let b : n < 2147483648 = f .sfits in record { fits = omega arith }
 abs-fits (negsuc n) f = let b : n < 2147483648 = f .sfits in record { fits = omega arith }
@@ -159,7 +156,7 @@ module _ (z : ℤ) (f : SFits w32 z) where
   signed-none t = neg-none z (subst (λ (x : ℤ). ltZ x (pos 0) ≡ true) back t)
 
   pub signed-cast : ltZ (toZ w32 (ofZ w32 z)) (pos 0) ≡ false → T (nonNeg (toZ w32 (ofZ w32 z))) × Fits w32 (natAbs (toZ w32 (ofZ w32 z)))
-  signed-cast t = (not-neg (toZ w32 (ofZ w32 z)) t, subst⁻¹ (λ (x : ℤ). Fits w32 (natAbs x)) back (abs-fits z f))
+  signed-cast t = (not-under (toZ w32 (ofZ w32 z)) t, subst⁻¹ (λ (x : ℤ). Fits w32 (natAbs x)) back (abs-fits z f))
 
   pub signed-text : ltZ (toZ w32 (ofZ w32 z)) (pos 0) ≡ false → heightText (natAbs (toZ w32 (ofZ w32 z))) ≡ depthText z
-  signed-text t = abs-text (toZ w32 (ofZ w32 z)) (not-neg (toZ w32 (ofZ w32 z)) t) ∙ ap depthText back
+  signed-text t = abs-text (toZ w32 (ofZ w32 z)) (not-under (toZ w32 (ofZ w32 z)) t) ∙ ap depthText back

@@ -4,7 +4,7 @@ use mir.Syntax.{w32}
 use lib.IntN.{natAbs}
 use Rattle.laws.specs.Numbers.{abs-neg}
 use Rattle.laws.specs.Exact.{Node, fits, value, int, neg, unsigned}
-use Rattle.face.proofs.Laws.{turned-up, not-below}
+use Rattle.laws.specs.Signs.{turned-up, not-under}
 use Rattle.face.proofs.size.Statement.{statement}
 use Rattle.face.proofs.size.Tie as tie
 
@@ -18,7 +18,7 @@ cast-result : tie.Need-cast-result
 cast-result c = unsigned (neg (v (c .before))) tt (turned-up (c .before .args .v) (rw (toZ-ofZ (c .before .fits .v)) at (c .if1 .taken)))
 
 cast-result-2 : tie.Need-cast-result-2
-cast-result-2 c = unsigned (v (c .before)) tt (not-below (c .before .args .v) (rw (toZ-ofZ (c .before .fits .v)) at (c .if1 .left)))
+cast-result-2 c = unsigned (v (c .before)) tt (not-under (c .before .args .v) (rw (toZ-ofZ (c .before .fits .v)) at (c .if1 .left)))
 
 returns : tie.Need-returns
 returns c = ap natAbs (value (neg (v (c .before)))) ∙ abs-neg (c .before .args .v)

@@ -6,7 +6,8 @@ use lib.ListN.{length}
 use borrow.Author.Needs.{needs}
 use mir.Facts.{toZ-ofZ}
 use Rattle.rules.specs.Site.{stateLength}
-use Rattle.run.proofs.Loop.{Running, card-true, cells-held, few-steps, peak-is, begins, goes-on, stops, ends}
+use Rattle.laws.specs.Facts.{check-card}
+use Rattle.run.proofs.Loop.{Running, cells-held, few-steps, peak-is, begins, goes-on, stops, ends}
 use Rattle.run.proofs.steps.Statement.{statement}
 use Rattle.run.proofs.steps.Tie as tie
 
@@ -19,7 +20,7 @@ abbrev μ-loop : tie.MeasureT-loop
     wanted - done
 
 cells-requires : tie.Need-cells-requires Inv-loop μ-loop
-cells-requires c κs = card-true _ _ _ (c .pre .passes)
+cells-requires c κs = check-card _ _ _ (c .pre .passes)
 
 greatest-requires : tie.Need-greatest-requires Inv-loop μ-loop
 greatest-requires c κs = let s = c .before .before in omega (arith, c .before .cells .ensures .0, cells-held _ _ _ (s .pre .passes))

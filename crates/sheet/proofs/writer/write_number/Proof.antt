@@ -1,7 +1,8 @@
 -- `write_number`: the check comes first, and 8 last.
 use mathlib.Core.Path.{sym, _∙_}
 use native.Mathlib.Omega.{arith}
-use Rattle.sheet.proofs.Writing.{write-checked, write-8, write-0, check-card}
+use Rattle.sheet.proofs.Writing.{write-checked, write-8, write-0}
+use Rattle.laws.specs.Facts.{check-card}
 use borrow.Author.Needs.{needs}
 use Rattle.sheet.proofs.writer.write_number.Statement.{statement}
 use Rattle.sheet.proofs.writer.write_number.Tie as tie
