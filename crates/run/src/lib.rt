@@ -30,7 +30,7 @@ fn steps(
             tally.reason = number;
             return tally;
         }
-        step::words::copy(state, scratch);
+        lists::copy(state, scratch);
         tally = tally.accept(site::greatest(state, cells));
         done += 1;
     }
@@ -66,6 +66,6 @@ pub fn run(card: Card, ground: &[i32], state: &mut [i32], scratch: &mut [i32]) -
     }
     let mut tide = step::longest();
     let tally = steps_in(card, ground, state, scratch, &mut tide);
-    step::words::clear(scratch);
+    lists::clear(scratch);
     tally
 }

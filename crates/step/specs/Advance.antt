@@ -7,7 +7,7 @@ use lib.ListN.{length}
 use Rattle.rules.specs.declared.Card.{Card}
 use Rattle.rules.specs.Site.{stateLength, check}
 use Rattle.rules.specs.Step.{stepNumber, nextState}
-use Rattle.step.specs.Faces.{Flowing}
+use Rattle.velocities.specs.Faces.{Flowing}
 
 -- a tide and a next state, both in the state's layout
 pub record Ready (c : Card) (g s t n : List ℤ) : Type 0 where

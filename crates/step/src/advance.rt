@@ -3,11 +3,6 @@ ghost use Rattle.rules.specs.Site.{readGround, readState};
 ghost use Rattle.rules.specs.Step.{speedsFit, nextState};
 ghost use Rattle.laws.specs.Tested.{Filled};
 ghost use Rattle.step.specs.Advance.{Ready, NextRoom, Advanced};
-use super::heights;
-use super::look;
-use super::shares;
-use super::velocities;
-use super::words;
 use rules::Card;
 
 // Fills the next state: its heights from the tide, and the velocities behind them. Where a velocity does not fit, only its length is promised.
@@ -18,8 +13,8 @@ fn fill_next(card: Card, ground: &[i32], state: &[i32], tide: &[i32], next: &mut
     let columns = card.columns as usize;
     let rows = card.rows as usize;
     let cells = rows * columns;
-    words::copy(&mut next[..cells], &tide[..cells]);
-    velocities::velocities(card, ground, state, tide, &mut next[cells..])
+    lists::copy(&mut next[..cells], &tide[..cells]);
+    velocities::passes::velocities(card, ground, state, tide, &mut next[cells..])
 }
 
 // The step's number. Where it is 0, `next` is the next state; otherwise only its length is promised.
@@ -27,14 +22,14 @@ pub fn advance(card: Card, ground: &[i32], state: &[i32], tide: &mut [i32], next
     requires { ⌜ Ready card (now ground) (now state) (now tide) (now next) ⌝ }
     ensures { λ r. ⌜ Advanced card (now (ground .entry)) (now (state .entry)) r (now (next .exit)) ⌝ }
 {
-    if !look::limit_kept(card, state) {
+    if !heights::look::limit_kept(card, state) {
         return 4;
     }
-    heights::fill_tide(card, state, tide);
-    if !heights::heights_fit(card, tide) {
+    heights::tide::fill_tide(card, state, tide);
+    if !heights::tide::heights_fit(card, tide) {
         return 5;
     }
-    if !shares::shares_fit(card, ground, state, tide) {
+    if !velocities::shares::shares_fit(card, ground, state, tide) {
         return 6;
     }
     if !fill_next(card, ground, state, tide, next) {

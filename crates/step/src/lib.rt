@@ -1,12 +1,5 @@
 // One step of water over a site, for any card, any lists and any words in them.
 pub mod advance;
-mod faces;
-mod heights;
-mod look;
-mod shares;
-mod transfers;
-mod velocities;
-pub mod words;
 
 ghost use mathlib.Core.Path.{_≡_};
 ghost use lib.ListN.{length};
@@ -44,7 +37,7 @@ fn step_by_draft(
     let n = next.len();
     let number = advance::advance(card, ground, state, &mut tide[..n], &mut draft[..n]);
     if number == 0 {
-        words::copy(next, &draft[..n]);
+        lists::copy(next, &draft[..n]);
     }
     number
 }

@@ -4,9 +4,9 @@ use borrow.Author.Needs.{needs}
 use borrow.Author.Tests.{not-true, not-false}
 use Rattle.rules.specs.Site.{readGround, readState}
 use Rattle.rules.specs.Step.{limitKept, heightsFit, sharesFit}
-use Rattle.step.specs.Known.{Sound}
-use Rattle.step.specs.Faces.{Flowing}
-use Rattle.step.proofs.Tides.{tide-heights}
+use Rattle.heights.specs.Known.{Sound}
+use Rattle.velocities.specs.Faces.{Flowing}
+use Rattle.heights.proofs.Tides.{tide-heights}
 use Rattle.step.proofs.Answers.{limit-broken, height-broken, share-broken, speed-broken, all-kept}
 use Rattle.step.proofs.advance.advance.Statement.{statement}
 use Rattle.step.proofs.advance.advance.Tie as tie

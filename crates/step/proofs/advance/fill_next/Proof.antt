@@ -13,8 +13,8 @@ use Rattle.laws.specs.Places.{Room, room}
 use Rattle.laws.specs.Parts.{two-parts, length-part, back-length}
 use Rattle.laws.specs.Behind.{front-heights}
 use Rattle.laws.specs.Reading.{long-of}
-use Rattle.step.specs.Tide.{tide}
-use Rattle.step.specs.Velocities.{nextVelocities}
+use Rattle.heights.specs.Tide.{tide}
+use Rattle.velocities.specs.Velocities.{nextVelocities}
 use Rattle.step.proofs.advance.fill_next.Statement.{statement}
 use Rattle.step.proofs.advance.fill_next.Tie as tie
 

@@ -1,0 +1,108 @@
+-- What a state that passes the first three checks gives to a function that reads it: places that lie in it, and numbers in their ranges.
+use mathlib.Core.Path.{_≡_, sym, subst}
+use mathlib.Core.List.{List}
+use Prim.Native.Nat.{ℕ, _-_, _≤_, _<_, _^_}
+use native.Mathlib.Omega.{arith}
+use lib.IntN.{ℤ, pos, negsuc, natAbs}
+use lib.Signed.{leZ, mag}
+use lib.ListN.{length}
+use lib.Dec.{T, le→leb}
+use mir.Val.{toZ, ofZ}
+use mir.Syntax.{w32}
+use Rattle.rules.specs.declared.Card.{Card}
+use Rattle.rules.specs.Site.{readGround, readState, stateLength, cardFits, lengthsFit, valuesFit, groundsFit, depthsFit, facesFit, wallsStill, check}
+use Rattle.rules.specs.Step.{eastTransfer, northTransfer}
+use Rattle.laws.specs.Sizes.{Within}
+use Rattle.laws.specs.Signed.{word-is}
+use Rattle.laws.specs.Tests.{four-of, to-T}
+use Rattle.laws.specs.Checks.{apart}
+use Rattle.laws.specs.Facts.{Fits, check-facts}
+use Rattle.laws.specs.Bounded as bounded
+use Rattle.heights.specs.Places.{HeightPlace, EastPlace, NorthPlace}
+use Rattle.heights.specs.Known.{Sound, Limited}
+use Rattle.face.specs.Ranges.{Height, Speed, Time, Side}
+
+-- a face between two of n cells
+pub record Inner (n k : ℕ) : Type 0 where
+  pub above : 0 < k
+  pub below : k < n
+  pub behind : k - 1 < n
+
+pub inner : {n k : ℕ} → k ≤ n → (k ≡ 0 → ⊥) → (k ≡ n → ⊥) → Inner n k
+inner h a b = record { above = omega arith; below = omega arith; behind = omega arith }
+
+-- a word that a call returned is in its range where the number that it stands for is
+pub within-word : {n : ℕ} (z : ℤ) {x : ℤ} → mag z < 2 ^ 31 → z ≡ x → Within n x → Within n (toZ w32 (ofZ w32 z))
+within-word {n} z h e b = subst (λ (y : ℤ). Within n y) (sym (word-is z h e)) b
+
+pub height-word : (z : ℤ) {x : ℤ} → mag z < 2 ^ 31 → z ≡ x → Height x → Height (toZ w32 (ofZ w32 z))
+height-word z h e b = subst Height (sym (word-is z h e)) b
+
+high : (z : ℤ) (n : ℕ) → T (leZ (pos 0) z) → natAbs z ≤ n → T (leZ z (pos n))
+high (pos k) n t h = le→leb k n h
+high (negsuc k) n t h = absurd t
+
+module _ {c : Card} {s : List ℤ} (sound : Sound c s) where
+  pub facts : Fits c (sound .ground) s
+  facts = check-facts c (sound .ground) s (sound .passes)
+
+  pub state-long : length s ≡ stateLength c
+  unfolding stateLength
+  state-long = facts .lengths .state
+
+  -- ---- places
+
+  module _ {i j : ℕ} where
+    pub height-place : i < c .columns → j < c .rows → HeightPlace c s i j
+    height-place hi hj = record { long = state-long; column = hi; row = hj }
+
+    pub east-place : i ≤ c .columns → j < c .rows → EastPlace c s i j
+    east-place hi hj = record { long = state-long; column = hi; row = hj }
+
+    pub north-place : i < c .columns → j ≤ c .rows → NorthPlace c s i j
+    north-place hi hj = record { long = state-long; column = hi; row = hj }
+
+  -- ---- numbers
+
+  pub height-fits : (i j : ℕ) → i < c .columns → j < c .rows → Height (readState c s .height i j)
+  height-fits i j hi hj =
+      let low = facts .height-low-at i j hi hj in
+      record { low = low; high = high (readState c s .height i j) 50000000 low (facts .height-high-at i j hi hj) }
+
+  pub east-fits : (i j : ℕ) → Speed (readState c s .east i j)
+  east-fits i j = record { size = facts .east-at i j }
+
+  pub north-fits : (i j : ℕ) → Speed (readState c s .north i j)
+  north-fits i j = record { size = facts .north-at i j }
+
+  -- ---- the card
+
+  pub time : Time (c .dt)
+  time = record { low = facts .card .dt-low; high = facts .card .dt-high }
+
+  pub side-x : Side (c .dx)
+  side-x = record { low = facts .card .dx-low; high = facts .card .dx-high }
+
+  pub side-y : Side (c .dy)
+  side-y = record { low = facts .card .dy-low; high = facts .card .dy-high }
+
+  pub depths : T (depthsFit c (readState c s))
+  unfolding check valuesFit
+  depths =
+      let g = sound .ground in
+      let w = readState c s in
+      let values = apart (cardFits c) (lengthsFit c g s) (valuesFit c (readGround c g) w) (sound .passes) .values in
+      four-of (groundsFit c (readGround c g)) (depthsFit c w) (facesFit c w) (wallsStill c w) (to-T values) .two
+
+-- ---- under the step limit: what crosses a face is at most a height
+
+module _ {c : Card} {s : List ℤ} (limited : Limited c s) where
+  pub east-crossed : (i j : ℕ) → i ≤ c .columns → j < c .rows → Within 50000000 (eastTransfer c (readState c s) i j)
+  east-crossed i j =
+      let card = facts (limited .sound) .card in
+      bounded.east-within c (readState c s) (omega arith) (omega arith) (depths (limited .sound)) (to-T (limited .limit)) i j
+
+  pub north-crossed : (i j : ℕ) → i < c .columns → j ≤ c .rows → Within 50000000 (northTransfer c (readState c s) i j)
+  north-crossed i j =
+      let card = facts (limited .sound) .card in
+      bounded.north-within c (readState c s) (omega arith) (omega arith) (depths (limited .sound)) (to-T (limited .limit)) i j

@@ -1,0 +1,78 @@
+-- What the functions of one step may take as known: what their callers have checked.
+use mathlib.Core.Path.{_≡_}
+use mathlib.Core.Bool.{true}
+use mathlib.Core.List.{List}
+use Prim.Native.Nat.{ℕ, suc, _+_, _*_, _≤_, _<_}
+use lib.IntN.{ℤ}
+use lib.ListN.{length, drop}
+use Rattle.rules.specs.declared.Card.{Card}
+use Rattle.rules.specs.Site.{readState, stateLength, check}
+use Rattle.rules.specs.Step.{transfer, limitKept}
+use Rattle.laws.specs.Sizes.{Within}
+use Rattle.face.specs.Ranges.{InTransfer}
+use Rattle.heights.specs.Tide.{crossings}
+
+-- a state that passes the first three checks, over some ground
+pub record Sound (c : Card) (s : List ℤ) : Type 0 where
+  pub ground : List ℤ
+  pub passes : check c ground s ≡ 0
+
+-- and each cell of which keeps the step limit
+pub record Limited (c : Card) (s : List ℤ) : Type 0 where
+  pub sound : Sound c s
+  pub limit : limitKept c (readState c s) ≡ true
+
+-- a cell of such a state
+pub record SoundCell (c : Card) (s : List ℤ) (i j : ℕ) : Type 0 where
+  pub sound : Sound c s
+  pub column : i < c .columns
+  pub row : j < c .rows
+
+-- an eastward face, and a northward face
+pub record LimitedEast (c : Card) (s : List ℤ) (i j : ℕ) : Type 0 where
+  pub limited : Limited c s
+  pub column : i ≤ c .columns
+  pub row : j < c .rows
+
+pub record LimitedNorth (c : Card) (s : List ℤ) (i j : ℕ) : Type 0 where
+  pub limited : Limited c s
+  pub column : i < c .columns
+  pub row : j ≤ c .rows
+
+-- the numbers of a face, and that what crosses it is at most a height
+pub record InCrossing (hK hL u : ℤ) (dt d : ℕ) : Type 0 where
+  pub ranges : InTransfer hK hL u dt d
+  pub size : Within 50000000 (transfer dt d hK hL u)
+
+-- room for what crosses the eastward faces, for what crosses the northward ones, and for both
+pub record EastRoom (c : Card) (s part : List ℤ) : Type 0 where
+  pub limited : Limited c s
+  pub long : length part ≡ c .rows * suc (c .columns)
+
+pub record NorthRoom (c : Card) (s part : List ℤ) : Type 0 where
+  pub limited : Limited c s
+  pub long : length part ≡ suc (c .rows) * c .columns
+
+pub record FacesRoom (c : Card) (s part : List ℤ) : Type 0 where
+  pub limited : Limited c s
+  pub long : length part ≡ c .rows * suc (c .columns) + suc (c .rows) * c .columns
+
+-- a list in the state's layout, and one that holds what crosses the faces behind its heights
+pub record TideRoom (c : Card) (s t : List ℤ) : Type 0 where
+  pub limited : Limited c s
+  pub long : length t ≡ stateLength c
+
+pub record Crossed (c : Card) (s t : List ℤ) : Type 0 where
+  pub limited : Limited c s
+  pub long : length t ≡ stateLength c
+  pub crossed : drop (c .rows * c .columns) t ≡ crossings c (readState c s)
+
+-- and a cell there
+pub record CrossedCell (c : Card) (s t : List ℤ) (i j : ℕ) : Type 0 where
+  pub lists : Crossed c s t
+  pub column : i < c .columns
+  pub row : j < c .rows
+
+-- any list in the state's layout
+pub record TideHeld (c : Card) (t : List ℤ) : Type 0 where
+  pub long : length t ≡ stateLength c

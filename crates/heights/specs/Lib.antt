@@ -1,0 +1,3 @@
+pub mod Tide
+pub mod Places
+pub mod Known

@@ -1,0 +1,38 @@
+// The look at the step limit: every cell, dry ones too, left at the first that breaks it.
+ghost use mathlib.Core.Path.{_≡_};
+ghost use Rattle.rules.specs.Site.{readState};
+ghost use Rattle.rules.specs.Step.{withinLimit, limitKept};
+ghost use Rattle.heights.specs.Known.{Sound, SoundCell};
+use super::words;
+use rules::Card;
+
+// Whether a cell keeps the step limit.
+fn keeps_limit(card: Card, state: &[i32], i: usize, j: usize) -> bool
+    requires { ⌜ SoundCell card (now state) i j ⌝ }
+    ensures { λ r. ⌜ r ≡ withinLimit card (readState card (now (state .entry))) i j ⌝ }
+{
+    let west = words::east_at(card, state, i, j);
+    let east = words::east_at(card, state, i + 1, j);
+    let south = words::north_at(card, state, i, j);
+    let north = words::north_at(card, state, i, j + 1);
+    face::keeps_limit(west, east, south, north, card.dt, card.dx, card.dy)
+}
+
+// Whether every cell does.
+pub fn limit_kept(card: Card, state: &[i32]) -> bool
+    requires { ⌜ Sound card (now state) ⌝ }
+    ensures { λ r. ⌜ r ≡ limitKept card (readState card (now (state .entry))) ⌝ }
+{
+    let columns = card.columns as usize;
+    let rows = card.rows as usize;
+    let mut kept = true;
+    'look: for j in 0..rows {
+        for i in 0..columns {
+            if !keeps_limit(card, state, i, j) {
+                kept = false;
+                break 'look;
+            }
+        }
+    }
+    kept
+}

@@ -1,0 +1,77 @@
+// The new heights, at the front of the tide, from what crossed the faces.
+ghost use mathlib.Core.Path.{_≡_};
+ghost use lib.IntN.{pos};
+ghost use lib.Signed.{leZ};
+ghost use Rattle.rules.specs.Grid.{allAt};
+ghost use Rattle.rules.specs.Site.{readState, writeState};
+ghost use Rattle.rules.specs.Step.{newHeight};
+ghost use Rattle.heights.specs.Tide as Tide;
+ghost use Rattle.heights.specs.Places.{HeightPlace};
+ghost use Rattle.heights.specs.Known.{TideRoom, Crossed, CrossedCell, TideHeld};
+use super::transfers;
+use super::words;
+use rules::Card;
+
+// A cell's new height.
+fn new_height(card: Card, state: &[i32], tide: &[i32], i: usize, j: usize) -> i32
+    requires { ⌜ CrossedCell card (now state) (now tide) i j ⌝ }
+    ensures { λ r. ⌜ r ≡ newHeight card (readState card (now (state .entry))) i j ⌝ }
+{
+    let h = words::height_at(card, state, i, j);
+    let west = words::east_at(card, tide, i, j);
+    let east = words::east_at(card, tide, i + 1, j);
+    let south = words::north_at(card, tide, i, j);
+    let north = words::north_at(card, tide, i, j + 1);
+    face::new_height(h, west, east, south, north)
+}
+
+// Every cell's.
+fn heights(card: Card, state: &[i32], tide: &mut [i32])
+    requires { ⌜ Crossed card (now state) (now tide) ⌝ }
+    ensures { λ r. ⌜ now (tide .exit) ≡ writeState card (Tide.tide card (readState card (now (state .entry)))) ⌝ }
+{
+    let columns = card.columns as usize;
+    let rows = card.rows as usize;
+    for j in 0..rows {
+        for i in 0..columns {
+            lists::put(tide, columns, i, j, new_height(card, state, tide, i, j));
+        }
+    }
+}
+
+// The whole tide: what crosses the faces, and then the new heights.
+pub fn fill_tide(card: Card, state: &[i32], tide: &mut [i32])
+    requires { ⌜ TideRoom card (now state) (now tide) ⌝ }
+    ensures { λ r. ⌜ now (tide .exit) ≡ writeState card (Tide.tide card (readState card (now (state .entry)))) ⌝ }
+{
+    let columns = card.columns as usize;
+    let rows = card.rows as usize;
+    let cells = rows * columns;
+    transfers::transfers(card, state, &mut tide[cells..]);
+    heights(card, state, tide);
+}
+
+// Whether a height of the tide is no more than 50,000,000.
+fn height_fits(card: Card, tide: &[i32], i: usize, j: usize) -> bool
+    requires { ⌜ HeightPlace card (now tide) i j ⌝ }
+    ensures { λ r. ⌜ r ≡ leZ (readState card (now (tide .entry)) .height i j) (pos 50000000) ⌝ }
+{
+    let h = words::height_at(card, tide, i, j);
+    h <= 50000000
+}
+
+// Whether every height is.
+pub fn heights_fit(card: Card, tide: &[i32]) -> bool
+    requires { ⌜ TideHeld card (now tide) ⌝ }
+    ensures { λ r. ⌜ r ≡ allAt (card .columns) (card .rows) (λ i j. leZ (readState card (now (tide .entry)) .height i j) (pos 50000000)) ⌝ }
+{
+    let columns = card.columns as usize;
+    let rows = card.rows as usize;
+    let mut fit = true;
+    for j in 0..rows {
+        for i in 0..columns {
+            fit = fit & height_fits(card, tide, i, j);
+        }
+    }
+    fit
+}

@@ -1,0 +1,40 @@
+// Lists of words: one word by column and row, and whole lists copied, cleared and renewed.
+ghost use mathlib.Core.Path.{_≡_};
+ghost use Prim.Native.Nat.{_+_, _*_, _<_};
+ghost use lib.IntN.{pos};
+ghost use lib.ListN.{length, getD, set, replicate};
+
+// The word at a column and a row of the grid of so many columns that starts at `base`.
+pub fn word(s: &[i32], base: usize, columns: usize, i: usize, j: usize) -> i32
+    requires { ⌜ base + (j * columns + i) < length (now s) ⌝ }
+    ensures { λ r. ⌜ r ≡ getD (now (s .entry)) (base + (j * columns + i)) (pos 0) ⌝ }
+{
+    s[base + (j * columns + i)]
+}
+
+// Stores a word at a column and a row of a grid of so many columns.
+pub fn put(part: &mut [i32], columns: usize, i: usize, j: usize, v: i32)
+    requires { ⌜ j * columns + i < length (now part) ⌝ }
+    ensures { λ r. ⌜ now (part .exit) ≡ set (now (part .entry)) (j * columns + i) v ⌝ }
+{
+    part[j * columns + i] = v;
+}
+
+// A copy of a list over one as long.
+pub fn copy(to: &mut [i32], from: &[i32])
+    requires { ⌜ length (now to) ≡ length (now from) ⌝ }
+    ensures { λ r. ⌜ now (to .exit) ≡ now (from .entry) ⌝ }
+{
+    for k in 0..from.len() {
+        to[k] = from[k];
+    }
+}
+
+// Every word 0.
+pub fn clear(s: &mut [i32])
+    ensures { λ r. ⌜ now (s .exit) ≡ replicate (length (now (s .entry))) (pos 0) ⌝ }
+{
+    for k in 0..s.len() {
+        s[k] = 0;
+    }
+}
