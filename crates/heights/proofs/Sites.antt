@@ -1,5 +1,6 @@
 -- What a state that passes the first three checks gives to a function that reads it: places that lie in it, and numbers in their ranges.
 use mathlib.Core.Path.{_≡_, sym, subst}
+use mathlib.Core.Bool.{Bool, true, false}
 use mathlib.Core.List.{List}
 use Prim.Native.Nat.{ℕ, _-_, _≤_, _<_, _^_}
 use native.Mathlib.Omega.{arith}
@@ -20,6 +21,7 @@ use Rattle.laws.specs.Facts.{Fits, check-facts}
 use Rattle.laws.specs.Bounded as bounded
 use Rattle.heights.specs.Places.{HeightPlace, EastPlace, NorthPlace}
 use Rattle.heights.specs.Known.{Sound, Limited}
+use Rattle.heights.specs.Ways.{across, up, side, speeds, transfers}
 use Rattle.face.specs.Ranges.{Height, Speed, Time, Side}
 
 -- a face between two of n cells
@@ -75,6 +77,11 @@ module _ {c : Card} {s : List ℤ} (sound : Sound c s) where
   pub north-fits : (i j : ℕ) → Speed (readState c s .north i j)
   north-fits i j = record { size = facts .north-at i j }
 
+  pub speed-fits : (east : Bool) (i j : ℕ) → Speed (speeds (readState c s) east i j)
+  unfolding speeds
+  speed-fits true i j = record { size = facts .east-at i j }
+  speed-fits false i j = record { size = facts .north-at i j }
+
   -- ---- the card
 
   pub time : Time (c .dt)
@@ -85,6 +92,11 @@ module _ {c : Card} {s : List ℤ} (sound : Sound c s) where
 
   pub side-y : Side (c .dy)
   side-y = record { low = facts .card .dy-low; high = facts .card .dy-high }
+
+  pub side-fits : (east : Bool) → Side (side c east)
+  unfolding side
+  side-fits true = record { low = facts .card .dx-low; high = facts .card .dx-high }
+  side-fits false = record { low = facts .card .dy-low; high = facts .card .dy-high }
 
   pub depths : T (depthsFit c (readState c s))
   unfolding check valuesFit
@@ -106,3 +118,8 @@ module _ {c : Card} {s : List ℤ} (limited : Limited c s) where
   north-crossed i j =
       let card = facts (limited .sound) .card in
       bounded.north-within c (readState c s) (omega arith) (omega arith) (depths (limited .sound)) (to-T (limited .limit)) i j
+
+  pub crossed : (east : Bool) (i j : ℕ) → i < across c east → j < up c east → Within 50000000 (transfers c (readState c s) east i j)
+  unfolding across up transfers
+  crossed true i j hi hj = east-crossed i j (omega arith) hj
+  crossed false i j hi hj = north-crossed i j hi (omega arith)

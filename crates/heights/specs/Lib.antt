@@ -1,3 +1,4 @@
 pub mod Tide
 pub mod Places
 pub mod Known
+pub mod Ways

@@ -2,4 +2,5 @@
 pub mod look;
 pub mod tide;
 pub mod transfers;
+pub mod ways;
 mod words;

@@ -1,0 +1,14 @@
+use Rattle.heights.specs.Ways.{side}
+use Rattle.heights.proofs.ways.side.Statement.{statement}
+use Rattle.heights.proofs.ways.side.Tie as tie
+
+returns : tie.Need-returns
+unfolding side
+returns c = rw (c .if1 .taken)
+
+returns-2 : tie.Need-returns-2
+unfolding side
+returns-2 c = rw (c .if1 .left)
+
+pub side-spec : {M : Type 1} → statement M
+side-spec = tie.close (tie.spec returns returns-2)
