@@ -19,7 +19,7 @@ use Rattle.laws.specs.Tests.{four-of, to-T}
 use Rattle.laws.specs.Checks.{apart}
 use Rattle.laws.specs.Facts.{Fits, check-facts}
 use Rattle.laws.specs.Bounded as bounded
-use Rattle.heights.specs.Places.{HeightPlace, EastPlace, NorthPlace}
+use Rattle.heights.specs.Places.{HeightPlace, FacePlace}
 use Rattle.heights.specs.Known.{Sound, Limited}
 use Rattle.heights.specs.Ways.{across, up, side, speeds, transfers}
 use Rattle.face.specs.Ranges.{Height, Speed, Time, Side}
@@ -58,11 +58,8 @@ module _ {c : Card} {s : List ℤ} (sound : Sound c s) where
     pub height-place : i < c .columns → j < c .rows → HeightPlace c s i j
     height-place hi hj = record { long = state-long; column = hi; row = hj }
 
-    pub east-place : i ≤ c .columns → j < c .rows → EastPlace c s i j
-    east-place hi hj = record { long = state-long; column = hi; row = hj }
-
-    pub north-place : i < c .columns → j ≤ c .rows → NorthPlace c s i j
-    north-place hi hj = record { long = state-long; column = hi; row = hj }
+    pub face-place : {east : Bool} → i < across c east → j < up c east → FacePlace c s east i j
+    face-place hi hj = record { long = state-long; column = hi; row = hj }
 
   -- ---- numbers
 
@@ -70,6 +67,9 @@ module _ {c : Card} {s : List ℤ} (sound : Sound c s) where
   height-fits i j hi hj =
       let low = facts .height-low-at i j hi hj in
       record { low = low; high = high (readState c s .height i j) 50000000 low (facts .height-high-at i j hi hj) }
+
+  pub height-within : (i j : ℕ) → i < c .columns → j < c .rows → Within 50000000 (readState c s .height i j)
+  height-within i j hi hj = record { size = facts .height-high-at i j hi hj }
 
   pub east-fits : (i j : ℕ) → Speed (readState c s .east i j)
   east-fits i j = record { size = facts .east-at i j }

@@ -1,8 +1,8 @@
 -- What the functions of one step may take as known: what their callers have checked.
 use mathlib.Core.Path.{_≡_}
-use mathlib.Core.Bool.{true}
+use mathlib.Core.Bool.{Bool, true}
 use mathlib.Core.List.{List}
-use Prim.Native.Nat.{ℕ, suc, _+_, _*_, _≤_, _<_}
+use Prim.Native.Nat.{ℕ, suc, _+_, _*_, _<_}
 use lib.IntN.{ℤ}
 use lib.ListN.{length, drop}
 use Rattle.rules.specs.declared.Card.{Card}
@@ -11,6 +11,7 @@ use Rattle.rules.specs.Step.{transfer, limitKept}
 use Rattle.laws.specs.Sizes.{Within}
 use Rattle.face.specs.Ranges.{InTransfer}
 use Rattle.heights.specs.Tide.{crossings}
+use Rattle.heights.specs.Ways.{across, up}
 
 -- a state that passes the first three checks, over some ground
 pub record Sound (c : Card) (s : List ℤ) : Type 0 where
@@ -28,32 +29,23 @@ pub record SoundCell (c : Card) (s : List ℤ) (i j : ℕ) : Type 0 where
   pub column : i < c .columns
   pub row : j < c .rows
 
--- an eastward face, and a northward face
-pub record LimitedEast (c : Card) (s : List ℤ) (i j : ℕ) : Type 0 where
+-- a face of such a state
+pub record LimitedFace (c : Card) (s : List ℤ) (east : Bool) (i j : ℕ) : Type 0 where
   pub limited : Limited c s
-  pub column : i ≤ c .columns
-  pub row : j < c .rows
-
-pub record LimitedNorth (c : Card) (s : List ℤ) (i j : ℕ) : Type 0 where
-  pub limited : Limited c s
-  pub column : i < c .columns
-  pub row : j ≤ c .rows
+  pub column : i < across c east
+  pub row : j < up c east
 
 -- the numbers of a face, and that what crosses it is at most a height
 pub record InCrossing (hK hL u : ℤ) (dt d : ℕ) : Type 0 where
   pub ranges : InTransfer hK hL u dt d
   pub size : Within 50000000 (transfer dt d hK hL u)
 
--- room for what crosses the eastward faces, for what crosses the northward ones, and for both
-pub record EastRoom (c : Card) (s part : List ℤ) : Type 0 where
+-- room for what crosses the faces of one way, and for both
+pub record FacesRoom (c : Card) (s : List ℤ) (east : Bool) (part : List ℤ) : Type 0 where
   pub limited : Limited c s
-  pub long : length part ≡ c .rows * suc (c .columns)
+  pub long : length part ≡ up c east * across c east
 
-pub record NorthRoom (c : Card) (s part : List ℤ) : Type 0 where
-  pub limited : Limited c s
-  pub long : length part ≡ suc (c .rows) * c .columns
-
-pub record FacesRoom (c : Card) (s part : List ℤ) : Type 0 where
+pub record CrossingsRoom (c : Card) (s part : List ℤ) : Type 0 where
   pub limited : Limited c s
   pub long : length part ≡ c .rows * suc (c .columns) + suc (c .rows) * c .columns
 

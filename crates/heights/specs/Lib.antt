@@ -1,4 +1,5 @@
+pub mod Ways
 pub mod Tide
 pub mod Places
+pub mod Cells
 pub mod Known
-pub mod Ways

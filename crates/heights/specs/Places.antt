@@ -1,24 +1,21 @@
 -- The places of a state: what a reader of one word requires.
 use mathlib.Core.Path.{_≡_}
+use mathlib.Core.Bool.{Bool}
 use mathlib.Core.List.{List}
-use Prim.Native.Nat.{ℕ, _≤_, _<_}
+use Prim.Native.Nat.{ℕ, _<_}
 use lib.IntN.{ℤ}
 use lib.ListN.{length}
 use Rattle.rules.specs.declared.Card.{Card}
 use Rattle.rules.specs.Site.{stateLength}
+use Rattle.heights.specs.Ways.{across, up}
 
--- a cell, an eastward face and a northward face of a state
+-- a cell of a state, and a face
 pub record HeightPlace (c : Card) (s : List ℤ) (i j : ℕ) : Type 0 where
   pub long : length s ≡ stateLength c
   pub column : i < c .columns
   pub row : j < c .rows
 
-pub record EastPlace (c : Card) (s : List ℤ) (i j : ℕ) : Type 0 where
+pub record FacePlace (c : Card) (s : List ℤ) (east : Bool) (i j : ℕ) : Type 0 where
   pub long : length s ≡ stateLength c
-  pub column : i ≤ c .columns
-  pub row : j < c .rows
-
-pub record NorthPlace (c : Card) (s : List ℤ) (i j : ℕ) : Type 0 where
-  pub long : length s ≡ stateLength c
-  pub column : i < c .columns
-  pub row : j ≤ c .rows
+  pub column : i < across c east
+  pub row : j < up c east

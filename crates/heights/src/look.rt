@@ -3,7 +3,7 @@ ghost use mathlib.Core.Path.{_≡_};
 ghost use Rattle.rules.specs.Site.{readState};
 ghost use Rattle.rules.specs.Step.{withinLimit, limitKept};
 ghost use Rattle.heights.specs.Known.{Sound, SoundCell};
-use super::words;
+use super::cells;
 use rules::Card;
 
 // Whether a cell keeps the step limit.
@@ -11,11 +11,16 @@ fn keeps_limit(card: Card, state: &[i32], i: usize, j: usize) -> bool
     requires { ⌜ SoundCell card (now state) i j ⌝ }
     ensures { λ r. ⌜ r ≡ withinLimit card (readState card (now (state .entry))) i j ⌝ }
 {
-    let west = words::east_at(card, state, i, j);
-    let east = words::east_at(card, state, i + 1, j);
-    let south = words::north_at(card, state, i, j);
-    let north = words::north_at(card, state, i, j + 1);
-    face::keeps_limit(west, east, south, north, card.dt, card.dx, card.dy)
+    let cell = cells::cell_at(card, state, state, i, j);
+    face::keeps_limit(
+        cell.west,
+        cell.east,
+        cell.south,
+        cell.north,
+        card.dt,
+        card.dx,
+        card.dy,
+    )
 }
 
 // Whether every cell does.

@@ -2,13 +2,13 @@
 ghost use mathlib.Core.Path.{_≡_};
 ghost use lib.IntN.{pos};
 ghost use lib.Signed.{leZ};
-ghost use Rattle.rules.specs.Grid.{allAt};
-ghost use Rattle.rules.specs.Site.{readState, writeState};
+ghost use Rattle.rules.specs.Site.{readState};
+ghost use Rattle.laws.specs.Reading.{Holds};
 ghost use Rattle.rules.specs.Step.{newHeight};
 ghost use Rattle.heights.specs.Tide as Tide;
 ghost use Rattle.heights.specs.Places.{HeightPlace};
-ghost use Rattle.heights.specs.Known.{TideRoom, Crossed, CrossedCell, TideHeld};
-use super::transfers;
+ghost use Rattle.heights.specs.Known.{Crossed, CrossedCell, TideHeld};
+use super::cells;
 use super::words;
 use rules::Card;
 
@@ -17,18 +17,14 @@ fn new_height(card: Card, state: &[i32], tide: &[i32], i: usize, j: usize) -> i3
     requires { ⌜ CrossedCell card (now state) (now tide) i j ⌝ }
     ensures { λ r. ⌜ r ≡ newHeight card (readState card (now (state .entry))) i j ⌝ }
 {
-    let h = words::height_at(card, state, i, j);
-    let west = words::east_at(card, tide, i, j);
-    let east = words::east_at(card, tide, i + 1, j);
-    let south = words::north_at(card, tide, i, j);
-    let north = words::north_at(card, tide, i, j + 1);
-    face::new_height(h, west, east, south, north)
+    let cell = cells::cell_at(card, state, tide, i, j);
+    face::new_height(cell.height, cell.west, cell.east, cell.south, cell.north)
 }
 
-// Every cell's.
-fn heights(card: Card, state: &[i32], tide: &mut [i32])
+// Every cell's, once what crosses the faces stands behind.
+pub fn heights(card: Card, state: &[i32], tide: &mut [i32])
     requires { ⌜ Crossed card (now state) (now tide) ⌝ }
-    ensures { λ r. ⌜ now (tide .exit) ≡ writeState card (Tide.tide card (readState card (now (state .entry)))) ⌝ }
+    ensures { λ r. ⌜ Holds card (Tide.tide card (readState card (now (state .entry)))) (now (tide .exit)) ⌝ }
 {
     let columns = card.columns as usize;
     let rows = card.rows as usize;
@@ -37,18 +33,6 @@ fn heights(card: Card, state: &[i32], tide: &mut [i32])
             lists::put(tide, columns, i, j, new_height(card, state, tide, i, j));
         }
     }
-}
-
-// The whole tide: what crosses the faces, and then the new heights.
-pub fn fill_tide(card: Card, state: &[i32], tide: &mut [i32])
-    requires { ⌜ TideRoom card (now state) (now tide) ⌝ }
-    ensures { λ r. ⌜ now (tide .exit) ≡ writeState card (Tide.tide card (readState card (now (state .entry)))) ⌝ }
-{
-    let columns = card.columns as usize;
-    let rows = card.rows as usize;
-    let cells = rows * columns;
-    transfers::transfers(card, state, &mut tide[cells..]);
-    heights(card, state, tide);
 }
 
 // Whether a height of the tide is no more than 50,000,000.
@@ -63,7 +47,7 @@ fn height_fits(card: Card, tide: &[i32], i: usize, j: usize) -> bool
 // Whether every height is.
 pub fn heights_fit(card: Card, tide: &[i32]) -> bool
     requires { ⌜ TideHeld card (now tide) ⌝ }
-    ensures { λ r. ⌜ r ≡ allAt (card .columns) (card .rows) (λ i j. leZ (readState card (now (tide .entry)) .height i j) (pos 50000000)) ⌝ }
+    ensures { λ r. ⌜ r ≡ Tide.tideFits card (now (tide .entry)) ⌝ }
 {
     let columns = card.columns as usize;
     let rows = card.rows as usize;

@@ -1,11 +1,14 @@
 // What crosses each face in one step: the part of the tide behind the heights. One division for each inner face; none on the walls.
 ghost use mathlib.Core.Path.{_≡_};
-ghost use Prim.Native.Nat.{suc};
+ghost use Prim.Native.Nat.{_*_};
+ghost use lib.ListN.{drop};
 ghost use Rattle.rules.specs.Grid.{grid};
 ghost use Rattle.rules.specs.Site.{readState};
-ghost use Rattle.rules.specs.Step.{transfer, eastTransfer, northTransfer};
+ghost use Rattle.rules.specs.Step.{transfer};
 ghost use Rattle.heights.specs.Tide.{crossings};
-ghost use Rattle.heights.specs.Known.{InCrossing, LimitedEast, LimitedNorth, EastRoom, NorthRoom, FacesRoom};
+ghost use Rattle.heights.specs.Known.{InCrossing, LimitedFace, FacesRoom, CrossingsRoom, TideRoom};
+ghost use Rattle.heights.specs.Ways as Ways;
+use super::ways;
 use super::words;
 use rules::Card;
 
@@ -17,80 +20,53 @@ fn crossing(hk: i32, hl: i32, u: i32, dt: u32, d: u32) -> i32
     face::transfer(hk, hl, u, dt, d) as i32
 }
 
-// What crosses an eastward face.
-fn east_transfer(card: Card, state: &[i32], i: usize, j: usize) -> i32
-    requires { ⌜ LimitedEast card (now state) i j ⌝ }
-    ensures { λ r. ⌜ r ≡ eastTransfer card (readState card (now (state .entry))) i j ⌝ }
+// What crosses one face of this way.
+fn over_face(card: Card, east: bool, state: &[i32], i: usize, j: usize) -> i32
+    requires { ⌜ LimitedFace card (now state) east i j ⌝ }
+    ensures { λ r. ⌜ r ≡ Ways.transfers card (readState card (now (state .entry))) east i j ⌝ }
 {
-    let columns = card.columns as usize;
-    if i == 0 {
+    if ways::is_wall(card, east, i, j) {
         return 0;
     }
-    if i == columns {
-        return 0;
-    }
-    let west = words::height_at(card, state, i - 1, j);
-    let east = words::height_at(card, state, i, j);
-    let u = words::east_at(card, state, i, j);
-    crossing(west, east, u, card.dt, card.dx)
+    let k = words::height_at(card, state, ways::back(east, i), ways::back(!east, j));
+    let l = words::height_at(card, state, i, j);
+    let u = words::face_at(card, east, state, i, j);
+    crossing(k, l, u, card.dt, ways::side(card, east))
 }
 
-// What crosses a northward face.
-fn north_transfer(card: Card, state: &[i32], i: usize, j: usize) -> i32
-    requires { ⌜ LimitedNorth card (now state) i j ⌝ }
-    ensures { λ r. ⌜ r ≡ northTransfer card (readState card (now (state .entry))) i j ⌝ }
+// What crosses every face of this way.
+fn over_faces(card: Card, east: bool, state: &[i32], part: &mut [i32])
+    requires { ⌜ FacesRoom card (now state) east (now part) ⌝ }
+    ensures { λ r. ⌜ now (part .exit) ≡ grid (Ways.across card east) (Ways.up card east) (Ways.transfers card (readState card (now (state .entry))) east) ⌝ }
 {
-    let rows = card.rows as usize;
-    if j == 0 {
-        return 0;
-    }
-    if j == rows {
-        return 0;
-    }
-    let south = words::height_at(card, state, i, j - 1);
-    let north = words::height_at(card, state, i, j);
-    let u = words::north_at(card, state, i, j);
-    crossing(south, north, u, card.dt, card.dy)
-}
-
-// What crosses every eastward face.
-fn eastward(card: Card, state: &[i32], part: &mut [i32])
-    requires { ⌜ EastRoom card (now state) (now part) ⌝ }
-    ensures { λ r. ⌜ now (part .exit) ≡ grid (suc (card .columns)) (card .rows) (eastTransfer card (readState card (now (state .entry)))) ⌝ }
-{
-    let columns = card.columns as usize;
-    let rows = card.rows as usize;
-    let across = columns + 1;
-    for j in 0..rows {
-        for i in 0..across {
-            lists::put(part, across, i, j, east_transfer(card, state, i, j));
-        }
-    }
-}
-
-// What crosses every northward face.
-fn northward(card: Card, state: &[i32], part: &mut [i32])
-    requires { ⌜ NorthRoom card (now state) (now part) ⌝ }
-    ensures { λ r. ⌜ now (part .exit) ≡ grid (card .columns) (suc (card .rows)) (northTransfer card (readState card (now (state .entry)))) ⌝ }
-{
-    let columns = card.columns as usize;
-    let rows = card.rows as usize;
-    let up = rows + 1;
+    let across = ways::across(card, east);
+    let up = ways::up(card, east);
     for j in 0..up {
-        for i in 0..columns {
-            lists::put(part, columns, i, j, north_transfer(card, state, i, j));
+        for i in 0..across {
+            lists::put(part, across, i, j, over_face(card, east, state, i, j));
         }
     }
 }
 
-// Both, in a part that starts behind the heights.
-pub fn transfers(card: Card, state: &[i32], part: &mut [i32])
-    requires { ⌜ FacesRoom card (now state) (now part) ⌝ }
+// Eastward ones, then northward ones, in a part that starts behind the heights.
+fn both_ways(card: Card, state: &[i32], part: &mut [i32])
+    requires { ⌜ CrossingsRoom card (now state) (now part) ⌝ }
     ensures { λ r. ⌜ now (part .exit) ≡ crossings card (readState card (now (state .entry))) ⌝ }
 {
     let columns = card.columns as usize;
     let rows = card.rows as usize;
     let faces = rows * (columns + 1);
-    eastward(card, state, &mut part[..faces]);
-    northward(card, state, &mut part[faces..]);
+    over_faces(card, true, state, &mut part[..faces]);
+    over_faces(card, false, state, &mut part[faces..]);
+}
+
+// Into the tide, behind its heights.
+pub fn transfers(card: Card, state: &[i32], tide: &mut [i32])
+    requires { ⌜ TideRoom card (now state) (now tide) ⌝ }
+    ensures { λ r. ⌜ drop (card .rows * card .columns) (now (tide .exit)) ≡ crossings card (readState card (now (state .entry))) ⌝ }
+{
+    let columns = card.columns as usize;
+    let rows = card.rows as usize;
+    let cells = rows * columns;
+    both_ways(card, state, &mut tide[cells..]);
 }

@@ -1,7 +1,9 @@
 // The words of a state, or of a list in its layout, by column and row.
 ghost use mathlib.Core.Path.{_≡_};
 ghost use Rattle.rules.specs.Site.{readState};
-ghost use Rattle.heights.specs.Places.{HeightPlace, EastPlace, NorthPlace};
+ghost use Rattle.heights.specs.Places.{HeightPlace, FacePlace};
+ghost use Rattle.heights.specs.Ways.{speeds};
+use super::ways;
 use rules::Card;
 
 // The height of a cell.
@@ -13,22 +15,12 @@ pub fn height_at(card: Card, state: &[i32], i: usize, j: usize) -> i32
     lists::word(state, 0, columns, i, j)
 }
 
-// What stands at an eastward face.
-pub fn east_at(card: Card, state: &[i32], i: usize, j: usize) -> i32
-    requires { ⌜ EastPlace card (now state) i j ⌝ }
-    ensures { λ r. ⌜ r ≡ readState card (now (state .entry)) .east i j ⌝ }
+// What stands at a face of this way.
+pub fn face_at(card: Card, east: bool, state: &[i32], i: usize, j: usize) -> i32
+    requires { ⌜ FacePlace card (now state) east i j ⌝ }
+    ensures { λ r. ⌜ r ≡ speeds (readState card (now (state .entry))) east i j ⌝ }
 {
-    let columns = card.columns as usize;
-    let rows = card.rows as usize;
-    lists::word(state, rows * columns, columns + 1, i, j)
-}
-
-// What stands at a northward face.
-pub fn north_at(card: Card, state: &[i32], i: usize, j: usize) -> i32
-    requires { ⌜ NorthPlace card (now state) i j ⌝ }
-    ensures { λ r. ⌜ r ≡ readState card (now (state .entry)) .north i j ⌝ }
-{
-    let columns = card.columns as usize;
-    let rows = card.rows as usize;
-    lists::word(state, rows * columns + rows * (columns + 1), columns, i, j)
+    let first = ways::first(card, east);
+    let across = ways::across(card, east);
+    lists::word(state, first, across, i, j)
 }

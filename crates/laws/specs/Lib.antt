@@ -28,7 +28,7 @@ pub mod Sheets
 pub mod Outcomes
 pub mod Along
 pub mod Sizes
-pub mod Transfers
+pub mod Ends
 pub mod Exact
 pub mod Bounded
 pub mod Tested

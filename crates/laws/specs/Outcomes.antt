@@ -28,3 +28,9 @@ module _ {A : Type 0} where
   unfolding ifDone
   if-refused zero done refused h = absurd (h refl)
   if-refused (suc k) done refused h = refl
+
+  -- what is left where the number is 0 counts only there
+  pub if-same : (k : ℕ) {done done′ : A} (refused : A) → (k ≡ 0 → done ≡ done′) → ifDone k done refused ≡ ifDone k done′ refused
+  unfolding ifDone
+  if-same zero refused h = h refl
+  if-same (suc k) refused h = refl

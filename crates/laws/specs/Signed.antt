@@ -16,6 +16,14 @@ word-is z h e = toZ-ofZ (record { sfits = h }) ∙ e
 pub word-back : (z : ℤ) → mag z < 2 ^ 31 → toZ w32 (ofZ w32 z) ≡ z
 word-back z h = toZ-ofZ (record { sfits = h })
 
+-- a number of a small size, as a word
+module _ {n : ℕ} (z : ℤ) {x : ℤ} (e : z ≡ x) (small : Within n x) (room : T (ltb n (2 ^ 31))) where
+  pub small-is : toZ w32 (ofZ w32 z) ≡ x
+  small-is = toZ-ofZ (subst (SFits w32) (sym e) (sfits w32 small room)) ∙ e
+
+  pub small-within : Within n (toZ w32 (ofZ w32 z))
+  small-within = subst (Within n) (sym small-is) small
+
 -- a signed 64-bit number of a small size, cast to 32 bits
 module _ {n : ℕ} (z : ℤ) {x : ℤ} (ok : mag z < 2 ^ 63) (e : z ≡ x) (small : Within n x) (room : T (ltb n (2 ^ 31))) where
   long-is : toZ w64 (ofZ w64 z) ≡ x

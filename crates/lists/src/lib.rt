@@ -1,8 +1,9 @@
 // Lists of words: one word by column and row, and whole lists copied, cleared and renewed.
 ghost use mathlib.Core.Path.{_≡_};
-ghost use Prim.Native.Nat.{_+_, _*_, _<_};
+ghost use Prim.Native.Nat.{_+_, _*_, _≤_, _<_};
 ghost use lib.IntN.{pos};
 ghost use lib.ListN.{length, getD, set, replicate};
+ghost use Rattle.lists.specs.Renewed.{renewed};
 
 // The word at a column and a row of the grid of so many columns that starts at `base`.
 pub fn word(s: &[i32], base: usize, columns: usize, i: usize, j: usize) -> i32
@@ -27,6 +28,17 @@ pub fn copy(to: &mut [i32], from: &[i32])
 {
     for k in 0..from.len() {
         to[k] = from[k];
+    }
+}
+
+// What a call that ended with this number leaves in a lent list: the front of what it made where the number is 0, and the list as it was otherwise.
+pub fn renew(to: &mut [i32], from: &[i32], number: u32)
+    requires { ⌜ length (now to) ≤ length (now from) ⌝ }
+    ensures { λ r. ⌜ now (to .exit) ≡ renewed number (now (from .entry)) (now (to .entry)) ⌝ }
+{
+    if number == 0 {
+        let n = to.len();
+        copy(to, &from[..n]);
     }
 }
 

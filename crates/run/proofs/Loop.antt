@@ -2,9 +2,11 @@
 use mathlib.Core.Path.{_≡_, refl, sym, ap, _∙_, subst}
 use mathlib.Core.List.{List}
 use Prim.Native.Nat.{ℕ, _+_, _≤_, _<_}
+use native.Mathlib.Nat.{pos-of-ne-zero}
 use native.Mathlib.Omega.{arith}
 use lib.IntN.{ℤ, pos}
-use lib.ListN.{length, getD}
+use lib.ListN.{length, getD, take}
+use lib.Seq.{take-all}
 use Rattle.rules.specs.declared.Card.{Card}
 use Rattle.rules.specs.declared.Tally.{Tally}
 use Rattle.rules.specs.Grid.{greatest}
@@ -13,7 +15,10 @@ use Rattle.rules.specs.Step.{stepNumber, nextState}
 use Rattle.rules.specs.Run.{Outcome, peak, started, accepted, stoppedFor, runAfter, runAll}
 use Rattle.laws.specs.Facts.{check-facts}
 use Rattle.laws.specs.Keeps.{keeps}
+use Rattle.laws.specs.Outcomes.{if-done, if-refused}
 use Rattle.laws.specs.Runs.{LeadsTo, leads-from, leads-on, leads-nowhere, led}
+use Rattle.lists.specs.Renewed.{renewed}
+use Rattle.step.specs.Advance.{Advanced}
 use Rattle.run.specs.Running.{Ended}
 
 -- after `done` accepted steps the tally is t and the state s, which still passes the checks; the steps that are left lead to the run's outcome
@@ -51,25 +56,34 @@ begins c g s h e p = record {
 }
 
 module _ {c : Card} {g s₀ s : List ℤ} {t : Tally} {done : ℕ} (r : Running c g s₀ s t done) where
-  pub goes-on : done < c .steps → stepNumber c g s ≡ 0 → (s′ : List ℤ) (h : ℤ) → s′ ≡ nextState c g s → h ≡ peak c s′ → (t′ : Tally) → t′ ≡ accepted t h
-      → Running c g s₀ s′ t′ (done + 1)
-  unfolding accepted
-  goes-on l e s′ h is top t′ taken =
-      let kept : check c g s′ ≡ 0 = subst (λ (x : List ℤ). check c g x ≡ 0) (sym is) (keeps c g s (r .passes) e) in
-      let p : t′ ≡ accepted t (peak c (nextState c g s)) = taken ∙ ap (accepted t) (top ∙ ap (peak c) is) in
-      record {
-        passes = kept;
-        long = state-length c g s′ kept;
-        most = omega arith;
-        counted = ap (λ (x : Tally). x .steps) taken ∙ ap (λ (n : ℕ). n + 1) (r .counted);
-        leads =
-            subst (λ (x : List ℤ). LeadsTo c g (c .steps) (done + 1) t′ x (runAll c g s₀)) (sym is)
-            (subst (λ (x : Tally). LeadsTo c g (c .steps) (done + 1) x (nextState c g s) (runAll c g s₀)) (sym p) (leads-on (r .leads) l e));
-      }
+  -- a step that is taken, its number k, what it made, and the state renewed by it
+  module _ (l : done < c .steps) (k : ℕ) {made s′ : List ℤ} (a : Advanced c g s k made) (is : s′ ≡ renewed k made s) where
+    pub goes-on : k ≡ 0 → length made ≡ stateLength c → (h : ℤ) → h ≡ peak c s′ → (t′ : Tally) → t′ ≡ accepted t h → Running c g s₀ s′ t′ (done + 1)
+    unfolding accepted renewed
+    goes-on z long h top t′ taken =
+        let e : stepNumber c g s ≡ 0 = sym (a .number) ∙ z in
+        let whole : take (length s) made ≡ made = take-all (length s) made (omega (arith, r .long)) in
+        let new : s′ ≡ nextState c g s = is ∙ if-done k (take (length s) made) s z ∙ whole ∙ a .state z in
+        let kept : check c g s′ ≡ 0 = subst (λ (x : List ℤ). check c g x ≡ 0) (sym new) (keeps c g s (r .passes) e) in
+        let p : t′ ≡ accepted t (peak c (nextState c g s)) = taken ∙ ap (accepted t) (top ∙ ap (peak c) new) in
+        record {
+          passes = kept;
+          long = state-length c g s′ kept;
+          most = omega arith;
+          counted = ap (λ (x : Tally). x .steps) taken ∙ ap (λ (n : ℕ). n + 1) (r .counted);
+          leads =
+              subst (λ (x : List ℤ). LeadsTo c g (c .steps) (done + 1) t′ x (runAll c g s₀)) (sym new)
+              (subst (λ (x : Tally). LeadsTo c g (c .steps) (done + 1) x (nextState c g s) (runAll c g s₀)) (sym p) (leads-on (r .leads) l e));
+        }
 
-  pub stops : done < c .steps → (k : ℕ) → 0 < k → k ≡ stepNumber c g s → Ended (runAll c g s₀) (record { steps = t .steps; reason = k; top = t .top }) s
-  unfolding stoppedFor
-  stops l k z e = let o = leads-nowhere (r .leads) l k z (sym e) in record { tallied = ap (λ (x : Outcome). x .tally) o; left = ap (λ (x : Outcome). x .state) o }
+    pub stops : (k ≡ 0 → ⊥) → Ended (runAll c g s₀) (record { steps = t .steps; reason = k; top = t .top }) s′
+    unfolding stoppedFor renewed
+    stops h =
+        let o = leads-nowhere (r .leads) l k (pos-of-ne-zero h) (sym (a .number)) in
+        record {
+          tallied = ap (λ (x : Outcome). x .tally) o;
+          left = is ∙ if-refused k (take (length s) made) s h ∙ ap (λ (x : Outcome). x .state) o;
+        }
 
   pub ends : c .steps ≤ done → Ended (runAll c g s₀) t s
   ends l = let o = led (r .leads) l in record { tallied = ap (λ (x : Outcome). x .tally) o; left = ap (λ (x : Outcome). x .state) o }

@@ -26,11 +26,11 @@ fn steps(
     let mut done: u32 = 0;
     while done < wanted {
         let number = step::advance::advance(card, ground, state, tide, scratch);
+        lists::renew(state, scratch, number);
         if number != 0 {
             tally.reason = number;
             return tally;
         }
-        lists::copy(state, scratch);
         tally = tally.accept(site::greatest(state, cells));
         done += 1;
     }

@@ -1,34 +1,82 @@
--- Each answer of a step: its number, from the tests that led there, and the next state where the number is 0.
-use mathlib.Core.Path.{_≡_}
-use mathlib.Core.Bool.{true, false}
+-- What the tests of a step say in the order in which they are made, and each answer: its number, and the next state where the number is 0.
+use mathlib.Core.Path.{_≡_, _∙_, sym}
+use mathlib.Core.Bool.{Bool, true, false, not}
 use mathlib.Core.List.{List}
+use Prim.Native.Nat.{_*_}
 use native.Mathlib.Nat.{suc-ne-zero}
+use borrow.Author.Tests.{not-true, not-false}
 use lib.IntN.{ℤ}
+use lib.ListN.{length, drop}
 use Rattle.rules.specs.declared.Card.{Card}
-use Rattle.rules.specs.Site.{readGround, readState}
+use Rattle.rules.specs.Site.{readGround, readState, stateLength, check}
 use Rattle.rules.specs.Step.{limitKept, heightsFit, sharesFit, speedsFit, answer, number, stepNumber, nextState}
-use Rattle.step.specs.Advance.{Advanced}
+use Rattle.laws.specs.Reading.{Holds}
+use Rattle.laws.specs.Tested.{Filled}
+use Rattle.heights.specs.Tide.{tide, crossings, tideFits}
+use Rattle.heights.specs.Known.{Sound, Limited, TideRoom, Crossed}
+use Rattle.heights.proofs.Tides.{tide-heights}
+use Rattle.velocities.specs.Faces.{Flowing}
+use Rattle.step.specs.Advance.{Ready, NextRoom, Advanced}
 
-module _ {c : Card} {g s n : List ℤ} where
-  pub limit-broken : limitKept c (readState c s) ≡ false → Advanced c g s 4 n
+module _ {c : Card} {g s t n : List ℤ} (ready : Ready c g s t n) where
+  pub sound : Sound c s
+  sound = record { ground = g; passes = ready .passes }
+
+-- the look at the step limit
+module _ {c : Card} {g s t n : List ℤ} (ready : Ready c g s t n) {kept : Bool} (looked : kept ≡ limitKept c (readState c s)) where
+  -- 4
+  pub limit-broken : {m : List ℤ} → not kept ≡ true → Advanced c g s 4 m
   unfolding stepNumber number answer
-  limit-broken l = record { number = rw l; state = λ e. absurd (suc-ne-zero 3 e) }
+  limit-broken b = let l : limitKept c (readState c s) ≡ false = sym looked ∙ not-true kept b in record { number = rw l; state = λ e. absurd (suc-ne-zero 3 e) }
 
-  module _ (l : limitKept c (readState c s) ≡ true) where
-    pub height-broken : heightsFit c (readState c s) ≡ false → Advanced c g s 5 n
+  pub limited : not kept ≡ false → Limited c s
+  limited b = record { sound = sound ready; limit = sym looked ∙ not-false kept b }
+
+  pub tide-room : not kept ≡ false → TideRoom c s t
+  tide-room b = record { limited = limited b; long = ready .tide }
+
+  pub crossed : not kept ≡ false → {t′ : List ℤ} → length t′ ≡ length t → drop (c .rows * c .columns) t′ ≡ crossings c (readState c s) → Crossed c s t′
+  crossed b long is = record { limited = limited b; long = long ∙ ready .tide; crossed = is }
+
+-- the new heights, in a tide
+module _ {c : Card} {s t : List ℤ} (limited : Limited c s) (holds : Holds c (tide c (readState c s)) t) {fit : Bool} (looked : fit ≡ tideFits c t) where
+  fit-is : fit ≡ heightsFit c (readState c s)
+  fit-is = looked ∙ tide-heights s holds
+
+  -- 5
+  pub height-broken : not fit ≡ true → {g m : List ℤ} → Advanced c g s 5 m
+  unfolding stepNumber number answer
+  height-broken b =
+      let h : heightsFit c (readState c s) ≡ false = sym fit-is ∙ not-true fit b in
+      record { number = rw (limited .limit, h); state = λ e. absurd (suc-ne-zero 4 e) }
+
+  pub next-room : not fit ≡ false → {g : List ℤ} → check c g s ≡ 0 → {n : List ℤ} → length n ≡ stateLength c → NextRoom c g s t n
+  next-room b passes long = record { flowing = record { passes = passes; limit = limited .limit; heights = sym fit-is ∙ not-false fit b; tide = holds }; long = long }
+
+-- own shares and new velocities
+module _ {c : Card} {g s t : List ℤ} (flowing : Flowing c g s t) {shared : Bool} (looked : shared ≡ sharesFit c (readGround c g) (readState c s)) where
+  -- 6
+  pub share-broken : {m : List ℤ} → not shared ≡ true → Advanced c g s 6 m
+  unfolding stepNumber number answer
+  share-broken b =
+      let r : sharesFit c (readGround c g) (readState c s) ≡ false = sym looked ∙ not-true shared b in
+      record { number = rw (flowing .limit, flowing .heights, r); state = λ e. absurd (suc-ne-zero 5 e) }
+
+  module _ (share : not shared ≡ false) {fast : Bool} {m : List ℤ} (filled : Filled (speedsFit c (readGround c g) (readState c s)) (nextState c g s) fast m) where
+    shares-fit : sharesFit c (readGround c g) (readState c s) ≡ true
+    shares-fit = sym looked ∙ not-false shared share
+
+    -- 7
+    pub speed-broken : not fast ≡ true → Advanced c g s 7 m
     unfolding stepNumber number answer
-    height-broken h = record { number = rw (l, h); state = λ e. absurd (suc-ne-zero 4 e) }
+    speed-broken b =
+        let v : speedsFit c (readGround c g) (readState c s) ≡ false = sym (filled .every-one) ∙ not-true fast b in
+        record { number = rw (flowing .limit, flowing .heights, shares-fit, v); state = λ e. absurd (suc-ne-zero 6 e) }
 
-    module _ (h : heightsFit c (readState c s) ≡ true) where
-      pub share-broken : sharesFit c (readGround c g) (readState c s) ≡ false → Advanced c g s 6 n
-      unfolding stepNumber number answer
-      share-broken r = record { number = rw (l, h, r); state = λ e. absurd (suc-ne-zero 5 e) }
-
-      module _ (r : sharesFit c (readGround c g) (readState c s) ≡ true) where
-        pub speed-broken : speedsFit c (readGround c g) (readState c s) ≡ false → Advanced c g s 7 n
-        unfolding stepNumber number answer
-        speed-broken v = record { number = rw (l, h, r, v); state = λ e. absurd (suc-ne-zero 6 e) }
-
-        pub all-kept : speedsFit c (readGround c g) (readState c s) ≡ true → n ≡ nextState c g s → Advanced c g s 0 n
-        unfolding stepNumber number answer
-        all-kept v is = record { number = rw (l, h, r, v); state = λ e. is }
+    -- 0
+    pub all-kept : not fast ≡ false → Advanced c g s 0 m
+    unfolding stepNumber number answer
+    all-kept b =
+        let yes : fast ≡ true = not-false fast b in
+        let v : speedsFit c (readGround c g) (readState c s) ≡ true = sym (filled .every-one) ∙ yes in
+        record { number = rw (flowing .limit, flowing .heights, shares-fit, v); state = λ e. filled .is yes }

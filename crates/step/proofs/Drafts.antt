@@ -1,18 +1,19 @@
 -- What the first three checks give a step that works in a draft, and each answer of the public step.
 use mathlib.Core.Path.{_≡_, _∙_, sym, ap}
-use mathlib.Core.List.{List}
+use mathlib.Core.List.{List, _++_}
 use Prim.Native.Nat.{ℕ, _≤_}
 use native.Mathlib.Omega.{arith}
 use lib.IntN.{ℤ}
-use lib.ListN.{length, take}
-use lib.Seq.{length-take-le}
+use lib.ListN.{length, take, drop}
+use lib.Seq.{length-take-le, take-at}
 use Rattle.rules.specs.declared.Card.{Card}
-use Rattle.rules.specs.Site.{stateLength, checkWith}
+use Rattle.rules.specs.Site.{stateLength, checkWith, ifDone}
 use Rattle.rules.specs.Step.{stepNumber, nextState}
 use Rattle.rules.specs.Calls.{stepAnswer, stepNext}
 use Rattle.rules.specs.Contracts.{StepContract}
 use Rattle.laws.specs.Facts.{check-with-facts, check-own}
-use Rattle.laws.specs.Outcomes.{first-refused, first-passed, if-done, if-refused}
+use Rattle.laws.specs.Outcomes.{first-refused, first-passed, if-refused, if-same}
+use Rattle.lists.specs.Renewed.{renewed}
 use Rattle.step.specs.Advance.{Ready, Advanced}
 use Rattle.step.specs.Draft.{Drafting}
 
@@ -46,26 +47,20 @@ module _ {c : Card} {g s t d n : List ℤ} (drafting : Drafting c g s t d n) whe
         next = draft-part ∙ room-long;
       }
 
-  -- ---- the answers
+  -- ---- what was worked out in the front of the draft
 
-  numbered : {r : ℕ} {l : List ℤ} → Advanced c g s r l → r ≡ stepAnswer c g s n
-  unfolding stepAnswer
-  numbered a = a .number ∙ sym (first-passed (checkWith c g s (length n)) (stepNumber c g s) (drafting .passes))
+  pub front : {r : ℕ} {made : List ℤ} → Advanced c g s r made → length made ≡ length (take (length n) d) → Advanced c g s r (take (length n) (made ++ drop (length n) d))
+  front {r} {made} a long =
+      let whole : take (length n) (made ++ drop (length n) d) ≡ made = take-at made (drop (length n) d) (length n) (long ∙ draft-part) in
+      record { number = a .number; state = λ z. whole ∙ a .state z }
 
-  -- 0: the next state
-  pub done : {r : ℕ} {l m : List ℤ} → Advanced c g s r l → r ≡ 0 → m ≡ l → StepContract c g s n r m
-  unfolding stepNext
-  done a z k =
-      record {
-        answer = numbered a;
-        next-exit = k ∙ a .state z ∙ sym (if-done (stepAnswer c g s n) (nextState c g s) n (sym (numbered a) ∙ z));
-      }
+-- ---- the answer where the checks are passed: 0 and the next state, or 4 to 7 and the next state as lent
 
-  -- 4 to 7: the next state as lent
-  pub refused-late : {r : ℕ} {l : List ℤ} → Advanced c g s r l → (r ≡ 0 → ⊥) → StepContract c g s n r n
-  unfolding stepNext
-  refused-late a h =
-      record { answer = numbered a; next-exit = sym (if-refused (stepAnswer c g s n) (nextState c g s) n (λ z. h (numbered a ∙ z))) }
+pub answered : {c : Card} {g s n : List ℤ} → checkWith c g s (length n) ≡ 0 → {r : ℕ} (list : List ℤ) {m : List ℤ} → m ≡ renewed r list n → Advanced c g s r (take (length n) list) → StepContract c g s n r m
+unfolding stepAnswer stepNext renewed
+answered {c} {g} {s} {n} passes {r} list {m} is a =
+    let k : r ≡ stepAnswer c g s n = a .number ∙ sym (first-passed (checkWith c g s (length n)) (stepNumber c g s) passes) in
+    record { answer = k; next-exit = is ∙ if-same r n (a .state) ∙ ap (λ (x : ℕ). ifDone x (nextState c g s) n) k }
 
 -- ---- 1 to 3: the next state as lent
 

@@ -17,6 +17,20 @@ fn fill_next(card: Card, ground: &[i32], state: &[i32], tide: &[i32], next: &mut
     velocities::passes::velocities(card, ground, state, tide, &mut next[cells..])
 }
 
+// The second half of a step, once the tide is at hand: 6 or 7, or 0 and the next state.
+fn move_on(card: Card, ground: &[i32], state: &[i32], tide: &[i32], next: &mut [i32]) -> u32
+    requires { ⌜ NextRoom card (now ground) (now state) (now tide) (now next) ⌝ }
+    ensures { λ r. ⌜ Advanced card (now (ground .entry)) (now (state .entry)) r (now (next .exit)) ⌝ }
+{
+    if !velocities::shares::shares_fit(card, ground, state, tide) {
+        return 6;
+    }
+    if !fill_next(card, ground, state, tide, next) {
+        return 7;
+    }
+    0
+}
+
 // The step's number. Where it is 0, `next` is the next state; otherwise only its length is promised.
 pub fn advance(card: Card, ground: &[i32], state: &[i32], tide: &mut [i32], next: &mut [i32]) -> u32
     requires { ⌜ Ready card (now ground) (now state) (now tide) (now next) ⌝ }
@@ -25,15 +39,10 @@ pub fn advance(card: Card, ground: &[i32], state: &[i32], tide: &mut [i32], next
     if !heights::look::limit_kept(card, state) {
         return 4;
     }
-    heights::tide::fill_tide(card, state, tide);
+    heights::transfers::transfers(card, state, tide);
+    heights::tide::heights(card, state, tide);
     if !heights::tide::heights_fit(card, tide) {
         return 5;
     }
-    if !velocities::shares::shares_fit(card, ground, state, tide) {
-        return 6;
-    }
-    if !fill_next(card, ground, state, tide, next) {
-        return 7;
-    }
-    0
+    move_on(card, ground, state, tide, next)
 }

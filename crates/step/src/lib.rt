@@ -36,9 +36,7 @@ fn step_by_draft(
 {
     let n = next.len();
     let number = advance::advance(card, ground, state, &mut tide[..n], &mut draft[..n]);
-    if number == 0 {
-        lists::copy(next, &draft[..n]);
-    }
+    lists::renew(next, draft, number);
     number
 }
 

@@ -1,6 +1,5 @@
 use Prim.Native.Nat.{_-_}
-use mathlib.Core.Path.{_≡_, sym, ap, _∙_}
-use native.Mathlib.Nat.{pos-of-ne-zero}
+use mathlib.Core.Path.{_≡_, _∙_}
 use native.Mathlib.Omega.{arith}
 use lib.ListN.{length}
 use borrow.Author.Needs.{needs}
@@ -31,6 +30,9 @@ loop-holds c = (begins _ _ _ _ (c .before .before .before .pre .passes) (toZ-ofZ
 advance-requires : tie.Need-advance-requires Inv-loop μ-loop
 advance-requires c κs = let i = c .before .before .before .before .loop .inv in record { passes = i .0 .passes; tide = i .2; next = i .1 }
 
+renew-requires : tie.Need-renew-requires Inv-loop μ-loop
+renew-requires c κs = search needs
+
 same-length : tie.Need-same-length Inv-loop μ-loop
 same-length c = search needs
 
@@ -41,16 +43,12 @@ same-length-3 : tie.Need-same-length-3 Inv-loop μ-loop
 same-length-3 c = search needs
 
 returns : tie.Need-returns Inv-loop μ-loop
-returns c = stops (c .before .before .before .before .before .before .before .before .loop .inv .0) (c .before .before .before .before .before .before .before .loop-test .taken) _ (pos-of-ne-zero (c .if1 .taken)) (c .before .before .before .advance .ensures .number)
-
-copy-requires : tie.Need-copy-requires Inv-loop μ-loop
-copy-requires c κs = search needs
+returns c = stops (c .before .before .before .before .before .before .before .before .before .before .before .before .loop .inv .0) (c .before .before .before .before .before .before .before .before .before .before .before .loop-test .taken) _ (c .before .before .before .before .before .before .before .advance .ensures) (c .before .before .renew .ensures) (c .if1 .taken)
 
 greatest-requires-2 : tie.Need-greatest-requires-2 Inv-loop μ-loop
 greatest-requires-2 c κs =
-    let s = c .before .before .before .before .before .before .before .before .before .before .before .before .before .before .before .before .before in
     let i = c .before .before .before .before .before .before .before .before .before .before .before .before .before .loop .inv in
-    omega (arith, c .before .before .before .before .before .before .before .before .before .before .before .before .before .before .before .before .cells .ensures .0, cells-held _ _ _ (i .0 .passes), ap length (c .before .before .copy .ensures))
+    omega (arith, c .before .before .before .before .before .before .before .before .before .before .before .before .before .before .before .before .cells .ensures .0, cells-held _ _ _ (i .0 .passes), c .before .before .before .renew .kept .0)
 
 accept-requires : tie.Need-accept-requires Inv-loop μ-loop
 accept-requires c κs =
@@ -58,9 +56,7 @@ accept-requires c κs =
     omega (arith, i .0 .counted, few-steps _ _ _ (i .0 .passes), c .before .before .before .before .before .before .before .before .before .before .before .before .before .loop-test .taken)
 
 add-done : tie.Need-add-done Inv-loop μ-loop
-add-done c =
-    let i = c .before .before .before .before .before .before .before .before .before .before .before .before .before .before .before .loop .inv in
-    omega (arith, few-steps _ _ _ (i .0 .passes), c .before .before .before .before .before .before .before .before .before .before .before .before .before .before .loop-test .taken)
+add-done c = omega (arith, few-steps _ _ _ (c .before .before .before .before .before .before .before .before .before .before .before .before .before .before .before .loop .inv .0 .passes), c .before .before .before .before .before .before .before .before .before .before .before .before .before .before .loop-test .taken)
 
 loop-less : tie.Need-loop-less Inv-loop μ-loop
 loop-less c = search needs
@@ -68,15 +64,14 @@ loop-less c = search needs
 loop-again : tie.Need-loop-again Inv-loop μ-loop
 loop-again c =
     let i = c .before .before .before .before .before .before .before .before .before .before .before .before .before .before .before .loop .inv in
-    let a = c .before .before .before .before .before .before .before .before .before .before .advance .ensures in
-    let none = c .before .before .before .before .before .before .before .if1 .left in
-    let is = c .before .before .before .before .copy .ensures ∙ a .state none in (
-      goes-on (i .0) (c .before .before .before .before .before .before .before .before .before .before .before .before .before .before .loop-test .taken) (sym (a .number) ∙ none) _ _ is
+    let stepped = c .before .before .before .before .before .before .before .before .before .before .advance in
+    let scratch-long = stepped .kept .1 .1 .1 .1 .0 ∙ i .1 in (
+      goes-on (i .0) (c .before .before .before .before .before .before .before .before .before .before .before .before .before .before .loop-test .taken) _ (stepped .ensures) (c .before .before .before .before .before .renew .ensures) (c .before .before .before .if1 .left) scratch-long _
           (toZ-ofZ (record { sfits = c .before .greatest2 .ok }) ∙ peak-is _ _ _ (c .before .before .before .before .before .before .before .before .before .before .before .before .before .before .before .before .before .before .cells .ensures .0) (c .before .greatest2 .ensures))
           _
           (c .accept .ensures),
-      omega (arith, c .before .before .before .before .before .before .before .before .before .before .advance .kept .1 .1 .1 .1 .0, i .1),
-      omega (arith, c .before .before .before .before .before .before .before .before .before .before .advance .kept .1 .1 .1 .0, i .2),
+      scratch-long,
+      stepped .kept .1 .1 .1 .0 ∙ i .2,
     )
 
 same-length-4 : tie.Need-same-length-4 Inv-loop μ-loop
@@ -101,11 +96,11 @@ steps-spec =
     greatest-requires
     loop-holds
     advance-requires
+    renew-requires
     same-length
     same-length-2
     same-length-3
     returns
-    copy-requires
     greatest-requires-2
     accept-requires
     add-done

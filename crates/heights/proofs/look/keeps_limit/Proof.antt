@@ -1,74 +1,63 @@
-use mathlib.Core.Path.{_∙_}
-use native.Mathlib.Numerals.{add-one}
-use native.Mathlib.Omega.{arith}
-use borrow.Author.Needs.{needs}
+use mathlib.Core.Path.{_≡_, _∙_, ap}
+use mathlib.Core.Bool.{Bool, true, false}
+use mathlib.Core.List.{List}
+use Prim.Native.Nat.{ℕ, suc, _+_, _*_}
+use lib.IntN.{ℤ, natAbs}
+use lib.Dec.{leb}
+use mir.Val.{toZ, ofZ}
+use mir.Syntax.{w32}
+use Rattle.rules.specs.declared.Card.{Card}
+use Rattle.rules.specs.Site.{readState}
 use Rattle.rules.specs.Step.{withinLimit}
-use Rattle.laws.specs.Signed.{word-is}
-use Rattle.heights.proofs.Sites.{east-place, north-place, east-fits, north-fits, within-word, time, side-x, side-y}
+use Rattle.laws.specs.Signed.{small-is, small-within}
+use Rattle.face.specs.Ranges.{InLimit}
+use Rattle.heights.specs.declared.cells.Cell.{Cell}
+use Rattle.heights.specs.Cells.{cellAt}
+use Rattle.heights.specs.Known.{Sound}
+use Rattle.heights.specs.Ways.{side, speeds}
+use Rattle.heights.proofs.Sites.{state-long, speed-fits, time, side-fits}
 use Rattle.heights.proofs.look.keeps_limit.Statement.{statement}
 use Rattle.heights.proofs.look.keeps_limit.Tie as tie
 
-east-at-requires : tie.Need-east-at-requires
-east-at-requires c κs = east-place (c .pre .sound) (omega arith) (c .pre .row)
+abbrev word : ℤ → ℤ
+word z = toZ w32 (ofZ w32 z)
 
-add-east-at : tie.Need-add-east-at
-add-east-at c = search needs
+-- the velocities of the cell that was read are in their range, and the limit over them is the cell's
+module _ {c : Card} {s : List ℤ} (i j : ℕ) (cell : Cell) (sound : Sound c s) (is : cell ≡ cellAt c s s i j) where
+  in-limit : InLimit (word (cell .west)) (word (cell .east)) (word (cell .south)) (word (cell .north)) (c .dt) (c .dx) (c .dy)
+  unfolding side speeds cellAt
+  in-limit =
+      record {
+        west = small-within (cell .west) (ap (λ (x : Cell). x .west) is) (speed-fits sound true i j) tt;
+        east = small-within (cell .east) (ap (λ (x : Cell). x .east) is) (speed-fits sound true (suc i) j) tt;
+        south = small-within (cell .south) (ap (λ (x : Cell). x .south) is) (speed-fits sound false i j) tt;
+        north = small-within (cell .north) (ap (λ (x : Cell). x .north) is) (speed-fits sound false i (suc j)) tt;
+        time = time sound;
+        sideX = side-fits sound true;
+        sideY = side-fits sound false;
+      }
 
-east-at-requires-2 : tie.Need-east-at-requires-2
-east-at-requires-2 c κs = east-place (c .before .pre .sound) (omega arith) (c .before .pre .row)
+  limit-is : {kept : Bool}
+      → kept ≡ leb (c .dt * ((natAbs (word (cell .west)) + natAbs (word (cell .east))) * c .dy + (natAbs (word (cell .south)) + natAbs (word (cell .north))) * c .dx)) (1000 * (c .dx * c .dy))
+      → kept ≡ withinLimit c (readState c s) i j
+  unfolding withinLimit speeds cellAt
+  limit-is e =
+      e
+      ∙ rw (
+        small-is (cell .west) (ap (λ (x : Cell). x .west) is) (speed-fits sound true i j) tt,
+        small-is (cell .east) (ap (λ (x : Cell). x .east) is) (speed-fits sound true (suc i) j) tt,
+        small-is (cell .south) (ap (λ (x : Cell). x .south) is) (speed-fits sound false i j) tt,
+        small-is (cell .north) (ap (λ (x : Cell). x .north) is) (speed-fits sound false i (suc j)) tt,
+      )
 
-north-at-requires : tie.Need-north-at-requires
-north-at-requires c κs = let s = c .before .before in north-place (s .pre .sound) (s .pre .column) (omega arith)
-
-add-north-at : tie.Need-add-north-at
-add-north-at c = search needs
-
-north-at-requires-2 : tie.Need-north-at-requires-2
-north-at-requires-2 c κs = let s = c .before .before .before in north-place (s .pre .sound) (s .pre .column) (omega arith)
+cell-at-requires : tie.Need-cell-at-requires
+cell-at-requires c κs = let p = c .pre in record { heights = state-long (p .sound); faces = state-long (p .sound); column = p .column; row = p .row }
 
 keeps-limit-requires : tie.Need-keeps-limit-requires
-keeps-limit-requires c κs =
-    let west = c .before .before .before .east-at in
-    let east = c .before .before .east-at2 in
-    let south = c .before .north-at in
-    let north = c .north-at2 in
-    let sound = c .before .before .before .before .pre .sound in
-    record {
-      west = within-word (west .result) (west .ok) (west .ensures) (east-fits sound _ _);
-      east = within-word (east .result) (east .ok) (east .ensures) (east-fits sound _ _);
-      south = within-word (south .result) (south .ok) (south .ensures) (north-fits sound _ _);
-      north = within-word (north .result) (north .ok) (north .ensures) (north-fits sound _ _);
-      time = time sound;
-      sideX = side-x sound;
-      sideY = side-y sound;
-    }
+keeps-limit-requires c κs = search in-limit
 
 returns : tie.Need-returns
-unfolding withinLimit
-returns c =
-    let west = c .before .before .before .before .east-at in
-    let east = c .before .before .before .east-at2 in
-    let south = c .before .before .north-at in
-    let north = c .before .north-at2 in
-    c .keeps-limit .ensures
-    ∙ rw (
-      word-is (west .result) (west .ok) (west .ensures),
-      word-is (east .result) (east .ok) (east .ensures),
-      word-is (south .result) (south .ok) (south .ensures),
-      word-is (north .result) (north .ok) (north .ensures),
-      add-one,
-      add-one,
-    )
+returns c = search limit-is
 
 pub keeps-limit-spec : {M : Type 1} → statement M
-keeps-limit-spec =
-    tie.close
-    (tie.spec
-    east-at-requires
-    add-east-at
-    east-at-requires-2
-    north-at-requires
-    add-north-at
-    north-at-requires-2
-    keeps-limit-requires
-    returns)
+keeps-limit-spec = tie.close (tie.spec cell-at-requires keeps-limit-requires returns)

@@ -85,7 +85,7 @@ returns : tie.Need-returns Inv-loop2 μ-loop2 Inv-loop μ-loop
 unfolding writeState tide crossings
 returns c =
     let p = c .before .before .before .before .pre in
-    done-front (c .before .loop .inv) (c .loop-test .left) ∙ rw (p .crossed)
+    record { is = done-front (c .before .loop .inv) (c .loop-test .left) ∙ rw (p .crossed) }
 
 pub heights-spec : {M : Type 1} → statement M
 heights-spec =

@@ -8,6 +8,7 @@ use lib.Signed.{leZ}
 use Rattle.rules.specs.declared.Card.{Card}
 use Rattle.rules.specs.Site.{readState}
 use Rattle.laws.specs.Gather.{RowsGathered, CellsGathered, rows-none, row-none, row-more, rows-more, rows-all}
+use Rattle.heights.specs.Tide.{tideFits}
 use Rattle.heights.proofs.tide.heights_fit.Statement.{statement}
 use Rattle.heights.proofs.tide.heights_fit.Tie as tie
 
@@ -61,6 +62,7 @@ loop-again : tie.Need-loop-again Inv-loop2 μ-loop2 Inv-loop μ-loop
 loop-again c = rows-more (c .before .loop2 .inv) (c .before .before .loop-test .taken) (c .loop2-test .left)
 
 returns : tie.Need-returns Inv-loop2 μ-loop2 Inv-loop μ-loop
+unfolding tideFits
 returns c = rows-all (c .before .loop .inv) (c .loop-test .left)
 
 pub heights-fit-spec : {M : Type 1} → statement M

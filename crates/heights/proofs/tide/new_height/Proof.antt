@@ -1,93 +1,95 @@
-use mathlib.Core.Path.{_≡_, _∙_}
-use Prim.Native.Nat.{_+_}
-use native.Mathlib.Numerals.{add-one}
+use mathlib.Core.Path.{_≡_, _∙_, ap, sym, subst}
+use mathlib.Core.Bool.{true, false}
+use Prim.Native.Nat.{ℕ, suc, _≤_}
 use native.Mathlib.Omega.{arith}
-use borrow.Author.Needs.{needs}
-use Rattle.rules.specs.Site.{readState}
+use mir.Val.{toZ, ofZ}
+use mir.Syntax.{w32}
+use Rattle.rules.specs.Site.{Water, readState}
 use Rattle.rules.specs.Step.{eastTransfer, northTransfer, newHeight}
-use Rattle.laws.specs.Signed.{word-is}
-use Rattle.heights.proofs.Sites.{height-place, height-fits, height-word, within-word, east-crossed, north-crossed}
-use Rattle.heights.proofs.Tides.{east-crossing, north-crossing}
+use Rattle.laws.specs.Signed.{word-is, small-is, small-within}
+use Rattle.laws.specs.Sizes.{Within}
+use Rattle.face.specs.Ranges.{Height}
+use Rattle.heights.specs.declared.cells.Cell.{Cell}
+use Rattle.heights.specs.Cells.{cellAt}
+use Rattle.heights.specs.Ways.{across, up, speeds, transfers}
+use Rattle.heights.proofs.Sites.{state-long, height-fits, height-within, crossed}
+use Rattle.heights.proofs.Tides.{crossing}
 use Rattle.heights.proofs.tide.new_height.Statement.{statement}
 use Rattle.heights.proofs.tide.new_height.Tie as tie
 
-height-at-requires : tie.Need-height-at-requires
-height-at-requires c κs = height-place (c .pre .lists .limited .sound) (c .pre .column) (c .pre .row)
+cell-at-requires : tie.Need-cell-at-requires
+cell-at-requires c κs =
+    let p = c .pre in
+    record { heights = state-long (p .lists .limited .sound); faces = p .lists .long; column = p .column; row = p .row }
 
-east-at-requires : tie.Need-east-at-requires
-east-at-requires c κs = search needs
-
-add-east-at : tie.Need-add-east-at
-add-east-at c = search needs
-
-east-at-requires-2 : tie.Need-east-at-requires-2
-east-at-requires-2 c κs = search needs
-
-north-at-requires : tie.Need-north-at-requires
-north-at-requires c κs = search needs
-
-add-north-at : tie.Need-add-north-at
-add-north-at c = search needs
-
-north-at-requires-2 : tie.Need-north-at-requires-2
-north-at-requires-2 c κs = search needs
-
--- what was read of the tide is what crosses the four faces
-module _ (c : tie.After-north-at2) where
+-- the numbers of the cell: its old height, and what crosses its four faces
+module _ (c : tie.After-struct-told5) where
   abbrev start : tie.Start
-  start = c .before .before .before .before .before
+  start = c .before .before .before .before .before .before
 
-  west : c .before .before .before .east-at .result ≡ eastTransfer (start .args .card) (readState (start .args .card) (start .args .state .now)) (start .args .i) (start .args .j)
-  west = c .before .before .before .east-at .ensures ∙ east-crossing (start .pre .lists) _ _ (omega arith) (start .pre .row)
+  abbrev w : Water
+  w = readState (start .args .card) (start .args .state .now)
 
-  east : c .before .before .east-at2 .result ≡ eastTransfer (start .args .card) (readState (start .args .card) (start .args .state .now)) (start .args .i + 1) (start .args .j)
-  east = c .before .before .east-at2 .ensures ∙ east-crossing (start .pre .lists) _ _ (omega arith) (start .pre .row)
+  abbrev cell : Cell
+  cell = c .before .before .before .before .before .cell-at .result
 
-  south : c .before .north-at .result ≡ northTransfer (start .args .card) (readState (start .args .card) (start .args .state .now)) (start .args .i) (start .args .j)
-  south = c .before .north-at .ensures ∙ north-crossing (start .pre .lists) _ _ (start .pre .column) (omega arith)
+  is : cell ≡ cellAt (start .args .card) (start .args .state .now) (start .args .tide .now) (start .args .i) (start .args .j)
+  is = c .before .before .before .before .before .cell-at .ensures
 
-  north : c .north-at2 .result ≡ northTransfer (start .args .card) (readState (start .args .card) (start .args .state .now)) (start .args .i) (start .args .j + 1)
-  north = c .north-at2 .ensures ∙ north-crossing (start .pre .lists) _ _ (start .pre .column) (omega arith)
+  height : toZ w32 (ofZ w32 (cell .height)) ≡ w .height (start .args .i) (start .args .j)
+  unfolding cellAt
+  height =
+      let p = start .pre in
+      small-is (cell .height) (ap (λ (x : Cell). x .height) is) (height-within (p .lists .limited .sound) _ _ (p .column) (p .row)) tt
+
+  west : cell .west ≡ eastTransfer (start .args .card) w (start .args .i) (start .args .j)
+  unfolding cellAt across up speeds transfers
+  west = let p = start .pre in ap (λ (x : Cell). x .west) is ∙ crossing (p .lists) true _ _ (omega (arith, p .column)) (p .row)
+
+  east : cell .east ≡ eastTransfer (start .args .card) w (suc (start .args .i)) (start .args .j)
+  unfolding cellAt across up speeds transfers
+  east = let p = start .pre in ap (λ (x : Cell). x .east) is ∙ crossing (p .lists) true _ _ (omega (arith, p .column)) (p .row)
+
+  south : cell .south ≡ northTransfer (start .args .card) w (start .args .i) (start .args .j)
+  unfolding cellAt across up speeds transfers
+  south = let p = start .pre in ap (λ (x : Cell). x .south) is ∙ crossing (p .lists) false _ _ (p .column) (omega (arith, p .row))
+
+  north : cell .north ≡ northTransfer (start .args .card) w (start .args .i) (suc (start .args .j))
+  unfolding cellAt across up speeds transfers
+  north = let p = start .pre in ap (λ (x : Cell). x .north) is ∙ crossing (p .lists) false _ _ (p .column) (omega (arith, p .row))
+
+  over-east : (i : ℕ) → i ≤ suc (start .args .i) → Within 50000000 (eastTransfer (start .args .card) w i (start .args .j))
+  unfolding across up transfers
+  over-east i h = let p = start .pre in crossed (p .lists .limited) true i _ (omega (arith, p .column)) (p .row)
+
+  over-north : (j : ℕ) → j ≤ suc (start .args .j) → Within 50000000 (northTransfer (start .args .card) w (start .args .i) j)
+  unfolding across up transfers
+  over-north j h = let p = start .pre in crossed (p .lists .limited) false _ j (p .column) (omega (arith, p .row))
 
 new-height-requires : tie.Need-new-height-requires
 new-height-requires c κs =
-    let h = c .before .before .before .before .height-at in
     let p = start c .pre in
     record {
-      height = height-word (h .result) (h .ok) (h .ensures) (height-fits (p .lists .limited .sound) _ _ (p .column) (p .row));
-      west = within-word (c .before .before .before .east-at .result) (c .before .before .before .east-at .ok) (west c) (east-crossed (p .lists .limited) _ _ (omega arith) (p .row));
-      east = within-word (c .before .before .east-at2 .result) (c .before .before .east-at2 .ok) (east c) (east-crossed (p .lists .limited) _ _ (omega arith) (p .row));
-      south = within-word (c .before .north-at .result) (c .before .north-at .ok) (south c) (north-crossed (p .lists .limited) _ _ (p .column) (omega arith));
-      north = within-word (c .north-at2 .result) (c .north-at2 .ok) (north c) (north-crossed (p .lists .limited) _ _ (p .column) (omega arith));
+      height = subst Height (sym (height c)) (height-fits (p .lists .limited .sound) _ _ (p .column) (p .row));
+      west = small-within (cell c .west) (west c) (over-east c _ (omega arith)) tt;
+      east = small-within (cell c .east) (east c) (over-east c _ (omega arith)) tt;
+      south = small-within (cell c .south) (south c) (over-north c _ (omega arith)) tt;
+      north = small-within (cell c .north) (north c) (over-north c _ (omega arith)) tt;
     }
 
 returns : tie.Need-returns
 unfolding newHeight
 returns c =
     let d = c .before in
-    let h = d .before .before .before .before .height-at in
     word-is (c .new-height .result) (c .new-height .ok)
     (c .new-height .ensures
     ∙ rw (
-      word-is (h .result) (h .ok) (h .ensures),
-      word-is (d .before .before .before .east-at .result) (d .before .before .before .east-at .ok) (west d),
-      word-is (d .before .before .east-at2 .result) (d .before .before .east-at2 .ok) (east d),
-      word-is (d .before .north-at .result) (d .before .north-at .ok) (south d),
-      word-is (d .north-at2 .result) (d .north-at2 .ok) (north d),
-      add-one,
-      add-one,
+      height d,
+      small-is (cell d .west) (west d) (over-east d _ (omega arith)) tt,
+      small-is (cell d .east) (east d) (over-east d _ (omega arith)) tt,
+      small-is (cell d .south) (south d) (over-north d _ (omega arith)) tt,
+      small-is (cell d .north) (north d) (over-north d _ (omega arith)) tt,
     ))
 
 pub new-height-spec : {M : Type 1} → statement M
-new-height-spec =
-    tie.close
-    (tie.spec
-    height-at-requires
-    east-at-requires
-    add-east-at
-    east-at-requires-2
-    north-at-requires
-    add-north-at
-    north-at-requires-2
-    new-height-requires
-    returns)
+new-height-spec = tie.close (tie.spec cell-at-requires new-height-requires returns)

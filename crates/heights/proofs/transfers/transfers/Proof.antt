@@ -1,11 +1,9 @@
-use mathlib.Core.Path.{_≡_, _∙_, sym}
-use Prim.Native.Nat.{ℕ, suc, _+_, _*_}
+use mathlib.Core.Path.{_∙_}
+use Prim.Native.Nat.{ℕ, _*_}
 use native.Mathlib.Omega.{arith}
 use borrow.Author.Needs.{needs}
-use lib.Seq.{length-take-le}
-use Rattle.laws.specs.Grids.{length-grid}
-use Rattle.laws.specs.Parts.{two-parts, length-part}
-use Rattle.heights.specs.Tide.{crossings}
+use Rattle.laws.specs.Places.{room}
+use Rattle.laws.specs.Parts.{back-length, back-drop}
 use Rattle.heights.proofs.transfers.transfers.Statement.{statement}
 use Rattle.heights.proofs.transfers.transfers.Tie as tie
 
@@ -15,51 +13,39 @@ cast-columns c = search needs
 cast-rows : tie.Need-cast-rows
 cast-rows c = search needs
 
-add-faces : tie.Need-add-faces
-add-faces c = search needs
+mul-cells : tie.Need-mul-cells
+mul-cells c = omega (arith, room _ (c .before .before .pre .long))
 
-mul-faces : tie.Need-mul-faces
-mul-faces c = search needs
+mul-both-ways : tie.Need-mul-both-ways
+mul-both-ways c = omega (arith, room _ (c .before .before .pre .long))
 
-slice-relend-prefix-eastward : tie.Need-slice-relend-prefix-eastward
-slice-relend-prefix-eastward c = search needs
+sub-both-ways : tie.Need-sub-both-ways
+sub-both-ways c = omega (arith, room _ (c .before .before .pre .long))
 
-abbrev easts : tie.Start → ℕ
-easts start = start .args .card .rows * (start .args .card .columns + 1)
+part-both-ways-start : tie.Need-part-both-ways-start
+part-both-ways-start c = omega (arith, room _ (c .before .before .pre .long))
 
-slice-aggregate-eastward : tie.Need-slice-aggregate-eastward
-slice-aggregate-eastward c = sym (length-take-le _ _ (omega arith))
+part-both-ways-end : tie.Need-part-both-ways-end
+part-both-ways-end c = search needs
 
-eastward-requires : tie.Need-eastward-requires
-eastward-requires c κs =
+abbrev cells : tie.Start → ℕ
+cells start = start .args .card .rows * start .args .card .columns
+
+both-ways-requires : tie.Need-both-ways-requires
+both-ways-requires c κs =
     let start = c .before .before .before in
-    record { limited = start .pre .limited; long = length-part (easts start) (start .args .part .now) (omega arith) (omega arith) }
-
-mul-northward : tie.Need-mul-northward
-mul-northward c = search needs
-
-sub-northward : tie.Need-sub-northward
-sub-northward c = search needs
-
-part-northward-start : tie.Need-part-northward-start
-part-northward-start c = search needs
-
-part-northward-end : tie.Need-part-northward-end
-part-northward-end c = search needs
-
-northward-requires : tie.Need-northward-requires
-northward-requires c κs = search needs
+    record {
+      limited = start .pre .limited;
+      long = back-length (cells start) (start .args .tide .now) ∙ omega (arith, room (start .args .card) (start .pre .long));
+    }
 
 same-length : tie.Need-same-length
 same-length c = search needs
 
 returns : tie.Need-returns
-unfolding crossings
 returns c =
-    let start = c .before .before .before .before .before .before .before .before in
-    let same : start .args .card .rows * suc (start .args .card .columns) ≡ easts start = omega arith in
-    two-parts (easts start) (start .args .part .now) (c .before .before .before .before .eastward .ensures) (c .before .northward .ensures)
-    (length-grid _ _ _ ∙ same)
+    let start = c .before .before .before .before .before in
+    back-drop (cells start) (start .args .tide .now) (room (start .args .card) (start .pre .long) .heights) ∙ c .before .both-ways .ensures
 
 pub transfers-spec : {M : Type 1} → statement M
 transfers-spec =
@@ -67,15 +53,11 @@ transfers-spec =
     (tie.spec
     cast-columns
     cast-rows
-    add-faces
-    mul-faces
-    slice-relend-prefix-eastward
-    slice-aggregate-eastward
-    eastward-requires
-    mul-northward
-    sub-northward
-    part-northward-start
-    part-northward-end
-    northward-requires
+    mul-cells
+    mul-both-ways
+    sub-both-ways
+    part-both-ways-start
+    part-both-ways-end
+    both-ways-requires
     same-length
     returns)

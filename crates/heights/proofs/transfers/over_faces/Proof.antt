@@ -1,44 +1,47 @@
-use mathlib.Core.Path.{_∙_}
-use Prim.Native.Nat.{_-_}
-use native.Mathlib.Numerals.{add-one}
+use mathlib.Core.Path.{_≡_, _∙_, sym, ap₂}
+use Prim.Native.Nat.{ℕ, _*_, _-_}
+use native.Mathlib.Nat.{le-of-eq}
 use native.Mathlib.Omega.{arith}
 use borrow.Author.Needs.{needs}
+use lib.ListN.{length}
+use Rattle.rules.specs.Grid.{grid}
 use Rattle.rules.specs.Site.{readState}
-use Rattle.rules.specs.Step.{eastTransfer}
 use Rattle.laws.specs.Signed.{word-is}
 use Rattle.laws.specs.Passes.{Rows, Cells, begin, begin-row, place, more, more-rows, done}
-use Rattle.heights.proofs.transfers.eastward.Statement.{statement}
-use Rattle.heights.proofs.transfers.eastward.Tie as tie
+use Rattle.heights.specs.Ways.{transfers}
+use Rattle.heights.proofs.transfers.over_faces.Statement.{statement}
+use Rattle.heights.proofs.transfers.over_faces.Tie as tie
 
 abbrev Inv-loop2 : tie.InvT-loop2
-Inv-loop2 card state part₀ columns rows across j i₀ part i = Cells across (eastTransfer card (readState card state)) rows j part₀ part i
+Inv-loop2 card east state part₀ across up j i₀ part i = Cells across (transfers card (readState card state) east) up j part₀ part i
 
 abbrev μ-loop2 : tie.MeasureT-loop2
-μ-loop2 card state part₀ columns rows across j i₀ part i = across - i
+μ-loop2 card east state part₀ across up j i₀ part i = across - i
 
 abbrev Inv-loop : tie.InvT-loop
-Inv-loop card state part₀ columns rows across j₀ part j = Rows across (eastTransfer card (readState card state)) rows part₀ part j
+Inv-loop card east state part₀ across up j₀ part j = Rows across (transfers card (readState card state) east) up part₀ part j
 
 abbrev μ-loop : tie.MeasureT-loop
-μ-loop card state part₀ columns rows across j₀ part j = rows - j
+μ-loop card east state part₀ across up j₀ part j = up - j
 
-cast-columns : tie.Need-cast-columns Inv-loop2 μ-loop2 Inv-loop μ-loop
-cast-columns c = search needs
+across-requires : tie.Need-across-requires Inv-loop2 μ-loop2 Inv-loop μ-loop
+across-requires c κs = search needs
 
-cast-rows : tie.Need-cast-rows Inv-loop2 μ-loop2 Inv-loop μ-loop
-cast-rows c = search needs
+up-requires : tie.Need-up-requires Inv-loop2 μ-loop2 Inv-loop μ-loop
+up-requires c κs = search needs
 
-add-across : tie.Need-add-across Inv-loop2 μ-loop2 Inv-loop μ-loop
-add-across c = search needs
+-- the part is as long as the loops count
+long : (c : tie.After-up Inv-loop2 μ-loop2 Inv-loop μ-loop) → length (c .before .before .args .part .now) ≡ c .up .result * c .before .across .result
+long c = c .before .before .pre .long ∙ sym (ap₂ _*_ (c .up .ensures) (c .before .across .ensures))
 
 loop-holds : tie.Need-loop-holds Inv-loop2 μ-loop2 Inv-loop μ-loop
-loop-holds c = begin (omega arith)
+loop-holds c = begin (le-of-eq (sym (long c)))
 
 loop2-holds : tie.Need-loop2-holds Inv-loop2 μ-loop2 Inv-loop μ-loop
 loop2-holds c = begin-row (c .before .loop .inv)
 
-east-transfer-requires : tie.Need-east-transfer-requires Inv-loop2 μ-loop2 Inv-loop μ-loop
-east-transfer-requires c κs =
+over-face-requires : tie.Need-over-face-requires Inv-loop2 μ-loop2 Inv-loop μ-loop
+over-face-requires c κs =
     record { limited = c .before .before .before .before .before .before .before .pre .limited; column = omega arith; row = omega arith }
 
 put-requires : tie.Need-put-requires Inv-loop2 μ-loop2 Inv-loop μ-loop
@@ -54,10 +57,10 @@ loop2-less c = omega arith
 
 loop2-again : tie.Need-loop2-again Inv-loop2 μ-loop2 Inv-loop μ-loop
 loop2-again c =
-    let g : tie.After-east-transfer Inv-loop2 μ-loop2 Inv-loop μ-loop = c .before .before in
+    let g : tie.After-over-face Inv-loop2 μ-loop2 Inv-loop μ-loop = c .before .before in
     let d : tie.In-loop2 Inv-loop2 μ-loop2 Inv-loop μ-loop = g .before .before in
     more (d .before .loop2 .inv) (d .before .before .loop-test .taken) (d .loop2-test .taken) (c .before .put .ensures)
-    (word-is (g .east-transfer .result) (g .east-transfer .ok) (g .east-transfer .ensures))
+    (word-is (g .over-face .result) (g .over-face .ok) (g .over-face .ensures))
 
 add-j : tie.Need-add-j Inv-loop2 μ-loop2 Inv-loop μ-loop
 add-j c = omega arith
@@ -72,22 +75,26 @@ same-length : tie.Need-same-length Inv-loop2 μ-loop2 Inv-loop μ-loop
 same-length c = omega arith
 
 returns : tie.Need-returns Inv-loop2 μ-loop2 Inv-loop μ-loop
-returns c = done (c .before .loop .inv) (c .loop-test .left) (omega arith) ∙ rw add-one
+returns c =
+    let d = c .before .before in
+    done (c .before .loop .inv) (c .loop-test .left) (long d)
+    ∙ ap₂ (λ (m n : ℕ). grid m n (transfers (d .before .before .args .card) (readState (d .before .before .args .card) (d .before .before .args .state .now)) (d .before .before .args .east)))
+    (d .before .across .ensures)
+    (d .up .ensures)
 
-pub eastward-spec : {M : Type 1} → statement M
-eastward-spec =
+pub over-faces-spec : {M : Type 1} → statement M
+over-faces-spec =
     tie.close
     (tie.spec
     Inv-loop2
     μ-loop2
     Inv-loop
     μ-loop
-    cast-columns
-    cast-rows
-    add-across
+    across-requires
+    up-requires
     loop-holds
     loop2-holds
-    east-transfer-requires
+    over-face-requires
     put-requires
     add-i
     loop2-less

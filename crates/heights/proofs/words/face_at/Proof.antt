@@ -1,0 +1,25 @@
+use mathlib.Core.Path.{_∙_}
+use native.Mathlib.Omega.{arith}
+use borrow.Author.Needs.{needs}
+use Rattle.laws.specs.Signed.{word-is}
+use Rattle.laws.specs.Places.{room}
+use Rattle.heights.proofs.Pointing.{face-in, face-read}
+use Rattle.heights.proofs.words.face_at.Statement.{statement}
+use Rattle.heights.proofs.words.face_at.Tie as tie
+
+first-requires : tie.Need-first-requires
+first-requires c κs = omega (arith, room _ (c .pre .long))
+
+across-requires : tie.Need-across-requires
+across-requires c κs = search needs
+
+word-requires : tie.Need-word-requires
+word-requires c κs =
+    let p = c .before .before .pre in
+    rw (c .before .first .ensures, c .across .ensures) (face-in _ _ (p .long) (p .column) (p .row))
+
+returns : tie.Need-returns
+returns c = word-is (c .word .result) (c .word .ok) (c .word .ensures ∙ rw (c .before .before .first .ensures, c .before .across .ensures) (face-read _ _ _ _ _))
+
+pub face-at-spec : {M : Type 1} → statement M
+face-at-spec = tie.close (tie.spec first-requires across-requires word-requires returns)

@@ -1,0 +1,37 @@
+use borrow.Author.Needs.{needs}
+use Rattle.step.proofs.Answers.{share-broken, speed-broken, all-kept}
+use Rattle.step.proofs.advance.move_on.Statement.{statement}
+use Rattle.step.proofs.advance.move_on.Tie as tie
+
+shares-fit-requires : tie.Need-shares-fit-requires
+shares-fit-requires c κs = search needs
+
+returns : tie.Need-returns
+returns c = search share-broken
+
+fill-next-requires : tie.Need-fill-next-requires
+fill-next-requires c κs = search needs
+
+same-length : tie.Need-same-length
+same-length c = search needs
+
+returns-2 : tie.Need-returns-2
+returns-2 c = search speed-broken
+
+same-length-2 : tie.Need-same-length-2
+same-length-2 c = search needs
+
+returns-3 : tie.Need-returns-3
+returns-3 c = search all-kept
+
+pub move-on-spec : {M : Type 1} → statement M
+move-on-spec =
+    tie.close
+    (tie.spec
+    shares-fit-requires
+    returns
+    fill-next-requires
+    same-length
+    returns-2
+    same-length-2
+    returns-3)
