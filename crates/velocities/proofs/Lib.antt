@@ -1,3 +1,6 @@
 pub mod Around
+pub mod Flows
+pub mod Places
 pub mod Ranges
 pub mod Speeds
+pub mod Velocities
