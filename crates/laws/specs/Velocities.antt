@@ -10,22 +10,22 @@ use lib.IntN.{ℤ, pos}
 use lib.Dec.{eqb, ltb}
 use Rattle.rules.specs.Step.{before}
 
+-- face k is a wall of a line that runs from face 0 to face n
 abbrev pub isEnd : ℕ → ℕ → Bool
 isEnd n k = eqb k 0 || eqb k n
 
 end-suc : (n k : ℕ) → isEnd n (suc k) ≡ eqb (suc k) n
 end-suc n k = rw (ne-eqb (suc k) 0 (λ e. omega arith))
 
--- inside the line
 pub record Inside (n k : ℕ) : Type 0 where
   pub low : 0 < k
   pub other : (k ≡ n) → ⊥
 
-pub inside : (n k : ℕ) → isEnd n k ≡ false → Inside n k
-inside n zero e = absurd (true≢false e)
-inside n (suc k) e = record { low = omega arith; other = eqb-false (suc k) n (rw end-suc at e) }
+pub no-end : (n k : ℕ) → isEnd n k ≡ false → Inside n k
+no-end n zero e = absurd (true≢false e)
+no-end n (suc k) e = record { low = omega arith; other = eqb-false (suc k) n (rw end-suc at e) }
 
--- a test for the end, and the other way round for the places before it
+-- up to the end, the test for a face before it is the test for the end the other way round
 until : (n k : ℕ) (x y : ℤ) → k ≤ n → cond (ltb k n) x y ≡ cond (eqb k n) y x
 until n k x y h = go (eqb k n) refl
   where
@@ -33,7 +33,7 @@ until n k x y h = go (eqb k n) refl
     go true e = let b : n ≤ k = omega (arith, eqb-true k n e) in rw (le-ltb k n b)
     go false e = let other : (k ≡ n) → ⊥ = eqb-false k n e in let b : k < n = omega arith in rw (lt-ltb k n b)
 
--- a rule between two walls, and 0 on both
+-- v follows the rule f between the two walls, and is 0 on both
 pub inner-is : (n : ℕ) (f v : ℕ → ℤ) → v 0 ≡ pos 0 → ((k : ℕ) → v (suc k) ≡ cond (ltb (suc k) n) (f k) (pos 0))
     → (k : ℕ) → k ≤ n → v k ≡ cond (isEnd n k) (pos 0) (f (k - 1))
 inner-is n f v first rule zero h = first
@@ -41,7 +41,7 @@ inner-is n f v first rule (suc k) h =
     let e : suc k - 1 ≡ k = omega arith in
     rule k ∙ until n (suc k) (f k) (pos 0) h ∙ rw (end-suc, e)
 
--- the place before one, of which the first has none
+-- what stands at the face before; the first has none
 pub before-is : (f : ℕ → ℤ) (k : ℕ) → before f k ≡ cond (ltb 0 k) (f (k - 1)) (pos 0)
 unfolding before
 before-is f zero = refl

@@ -1,19 +1,16 @@
--- Around a face, said once for both ways that faces point: the faces of a cell, the cells of a face and the faces abreast of it. Each lies where it should,
--- and the numbers there are those of `eastFace` and `northFace`.
-use Prim.Native.Nat.{ℕ, suc, _≤_, _<_}
+-- Around a face, said once for both ways that faces point: the faces of a cell and the cells of a face lie where they should, and the numbers between two
+-- cells are those of `eastFace` and `northFace`.
+use Prim.Native.Nat.{ℕ, _≤_, _<_}
 use mathlib.Core.Path.{_≡_, refl}
-use mathlib.Core.Bool.{Bool, true, false, not, cond, _&&_, and-true, true≢false, false≢true}
+use mathlib.Core.Bool.{Bool, true, false, not, cond, true≢false, false≢true}
 use mathlib.Core.List.{List}
 use native.Mathlib.Omega.{arith}
-use borrow.Author.Tests.{lt-ltb}
-use lib.Dec.{ltb, ltb→lt}
-use lib.IntN.{ℤ, pos}
+use lib.IntN.{ℤ}
 use Rattle.rules.specs.declared.Card.{Card}
 use Rattle.rules.specs.Grid.{Field}
 use Rattle.rules.specs.Site.{Water}
-use Rattle.rules.specs.Step.{after, eastFace, northFace}
-use Rattle.laws.specs.Tests.{and-left, and-right, to-T}
-use Rattle.laws.specs.Velocities.{inside, before-is}
+use Rattle.rules.specs.Step.{eastFace, northFace}
+use Rattle.laws.specs.Velocities.{no-end}
 use Rattle.heights.specs.Ways.{across, up, isWall, back, speeds, transfers}
 use Rattle.velocities.specs.Around.{forth, speedAbove, speedBelow, between, FaceIn}
 use Rattle.velocities.specs.Faces.{Flowing, AtFace, innerFace}
@@ -57,46 +54,18 @@ module _ {c : Card} {g s t : List ℤ} {east : Bool} {i j : ℕ} (a : AtFace c g
 -- a face that is no wall has a cell behind it
 pub inner-at : {c : Card} {g s t : List ℤ} {i j : ℕ} → Flowing c g s t → (east : Bool) → FaceIn c east i j → isWall c east i j ≡ false → AtFace c g s t east (back east i) (back (not east) j)
 unfolding across up isWall back forth
-inner-at {c} {g} {s} {t} {i} {j} f true p e = let line = inside (c .columns) i e in record { flowing = f; column = omega arith; row = p .row }
-inner-at {c} {g} {s} {t} {i} {j} f false p e = let line = inside (c .rows) j e in record { flowing = f; column = p .column; row = omega arith }
+inner-at {c} {g} {s} {t} {i} {j} f true p e = let line = no-end (c .columns) i e in record { flowing = f; column = omega arith; row = p .row }
+inner-at {c} {g} {s} {t} {i} {j} f false p e = let line = no-end (c .rows) j e in record { flowing = f; column = p .column; row = omega arith }
 
--- and no wall is so near that going back would be a subtraction from 0
+-- and going back from it takes nothing from 0
 pub past-wall : (c : Card) (east : Bool) (i j : ℕ) → isWall c east i j ≡ false → 0 < cond east i j
 unfolding isWall
-past-wall c true i j e = inside (c .columns) i e .low
-past-wall c false i j e = inside (c .rows) j e .low
+past-wall c true i j e = no-end (c .columns) i e .low
+past-wall c false i j e = no-end (c .rows) j e .low
 
 pub picked : (one : Bool) (m n : ℕ) → 0 < cond one m n → ((one ≡ true) → 0 < m) × ((one ≡ false) → 0 < n)
 picked true m n h = (λ e. h, λ e. absurd (true≢false e))
 picked false m n h = (λ e. absurd (false≢true e), λ e. h)
-
--- ---- The faces abreast of a face: the next one, and the one before
-
-module _ {c : Card} {i j : ℕ} where
-  pub above-is : (w : Water) (east : Bool) → FaceIn c east i j
-      → speedAbove c w east i j ≡ cond (ltb (forth (not east) i) (across c east) && ltb (forth east j) (up c east)) (speeds w east (forth (not east) i) (forth east j)) (pos 0)
-  unfolding across up forth speedAbove after
-  above-is w true p = rw (lt-ltb i (suc (c .columns)) (p .column))
-  above-is w false p = rw (lt-ltb j (suc (c .rows)) (p .row), and-true)
-
-  -- there is a next one where the test for it passes
-  pub above-in : (east : Bool) {m n : ℕ} → m ≡ across c east → n ≡ up c east → (ltb i m && ltb j n) ≡ true → FaceIn c east i j
-  above-in east {m} {n} d e t =
-      record {
-        column = rw d at (ltb→lt i m (and-left (ltb i m) (ltb j n) (to-T t)));
-        row = rw e at (ltb→lt j n (and-right (ltb i m) (ltb j n) (to-T t)));
-      }
-
-  pub below-in : (east : Bool) → FaceIn c east i j → FaceIn c east (back (not east) i) (back east j)
-  unfolding across up back
-  below-in true p = record { column = p .column; row = omega arith }
-  below-in false p = record { column = omega arith; row = p .row }
-
-pub below-is : (w : Water) (east : Bool) (i j : ℕ)
-    → speedBelow w east i j ≡ cond (ltb 0 (cond east j i)) (speeds w east (back (not east) i) (back east j)) (pos 0)
-unfolding back speedBelow
-below-is w true i j = before-is _ j
-below-is w false i j = before-is _ i
 
 -- ---- The numbers around an inner face
 

@@ -1,3 +1,4 @@
+pub mod Abreast
 pub mod Around
 pub mod Flows
 pub mod Places

@@ -15,7 +15,6 @@ use Rattle.laws.specs.Grids.{allAt-at}
 use Rattle.laws.specs.Sizes.{Within}
 use Rattle.laws.specs.Bounded.{new-low}
 use Rattle.face.specs.Ranges.{Height, Ground, Speed, Transfer, FaceFits}
-use Rattle.heights.specs.Known.{Limited}
 use Rattle.heights.specs.Ways.{speeds, transfers}
 use Rattle.heights.proofs.Sites.{facts, depths, height-fits, speed-fits, crossed}
 use Rattle.velocities.specs.Around.{speedAbove, speedBelow, between, FaceIn}

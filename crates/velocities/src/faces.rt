@@ -6,7 +6,7 @@ ghost use mathlib.Core.Path.{_≡_};
 ghost use Rattle.rules.specs.Site.{readGround, readState};
 ghost use Rattle.velocities.specs.Faces.{AtFace, innerFace};
 
-// Around the inner face of which (i, j) is cell K.
+// Around the inner face of which (i, j) is cell K; it is the near one of cell L.
 pub fn face(
     card: Card,
     east: bool,

@@ -1,4 +1,4 @@
-// What stands at a face, and at the faces next to it, in a list of a state's layout.
+// What stands at a face, in a list of a state's layout: at the two faces of a cell that point one way, and at the faces abreast of one.
 use heights::ways;
 use rules::Card;
 ghost use mathlib.Core.Path.{_≡_};
@@ -19,17 +19,17 @@ pub fn forth(one: bool, n: usize) -> usize
     n
 }
 
-// The one of two numbers that counts for eastward faces, or the other for northward ones.
-fn pick(east: bool, one: usize, other: usize) -> usize
-    ensures { λ r. ⌜ r ≡ cond east one other ⌝ }
+// The first number for eastward faces, the second for northward ones.
+fn pick(east: bool, first: usize, second: usize) -> usize
+    ensures { λ r. ⌜ r ≡ cond east first second ⌝ }
 {
     if east {
-        return one;
+        return first;
     }
-    other
+    second
 }
 
-// What stands at a face: the near one of cell (i, j).
+// What stands at face (i, j), the near one of cell (i, j): its west or its south side.
 pub fn near(card: Card, east: bool, list: &[i32], i: usize, j: usize) -> i32
     requires { ⌜ Around.FacePlace card (now list) east i j ⌝ }
     ensures { λ r. ⌜ r ≡ speeds (readState card (now (list .entry))) east i j ⌝ }
@@ -43,7 +43,7 @@ pub fn near(card: Card, east: bool, list: &[i32], i: usize, j: usize) -> i32
     )
 }
 
-// At the far one.
+// At the far one, its east or its north side.
 pub fn far(card: Card, east: bool, list: &[i32], i: usize, j: usize) -> i32
     requires { ⌜ Around.FacePlace card (now list) east (Around.forth east i) (Around.forth (not east) j) ⌝ }
     ensures { λ r. ⌜ r ≡ Around.onward east (speeds (readState card (now (list .entry))) east) i j ⌝ }
@@ -51,7 +51,7 @@ pub fn far(card: Card, east: bool, list: &[i32], i: usize, j: usize) -> i32
     near(card, east, list, forth(east, i), forth(!east, j))
 }
 
-// At the next face abreast of it; beyond a side wall there is none.
+// At the next face abreast of face (i, j); beyond a side wall there is none.
 pub fn above(card: Card, east: bool, state: &[i32], i: usize, j: usize) -> i32
     requires { ⌜ Around.FacePlace card (now state) east i j ⌝ }
     ensures { λ r. ⌜ r ≡ Around.speedAbove card (readState card (now (state .entry))) east i j ⌝ }
@@ -64,7 +64,7 @@ pub fn above(card: Card, east: bool, state: &[i32], i: usize, j: usize) -> i32
     0
 }
 
-// At the one before it.
+// At the one before.
 pub fn below(card: Card, east: bool, state: &[i32], i: usize, j: usize) -> i32
     requires { ⌜ Around.FacePlace card (now state) east i j ⌝ }
     ensures { λ r. ⌜ r ≡ Around.speedBelow (readState card (now (state .entry))) east i j ⌝ }

@@ -6,7 +6,7 @@ use lib.Dec.{ltb}
 use Rattle.heights.specs.Ways as Ways
 use Rattle.laws.specs.Signed.{word-is}
 use Rattle.velocities.specs.Around.{forth}
-use Rattle.velocities.proofs.Around.{above-is, above-in}
+use Rattle.velocities.proofs.Abreast.{above-is, above-in}
 use Rattle.velocities.proofs.Places.{in-range}
 use Rattle.velocities.proofs.words.above.Statement.{statement}
 use Rattle.velocities.proofs.words.above.Tie as tie

@@ -5,7 +5,8 @@ use mathlib.Core.Bool.{cond}
 use borrow.Author.Needs.{needs}
 use borrow.Author.Tests.{lt-ltb, le-ltb, not-true}
 use Rattle.laws.specs.Signed.{word-is}
-use Rattle.velocities.proofs.Around.{picked, below-in, below-is}
+use Rattle.velocities.proofs.Abreast.{below-in, below-is}
+use Rattle.velocities.proofs.Around.{picked}
 use Rattle.velocities.proofs.words.below.Statement.{statement}
 use Rattle.velocities.proofs.words.below.Tie as tie
 
