@@ -1,39 +1,48 @@
--- The new velocity of a face, by the face's own place: 0 on the walls, and the rule of an inner face with the numbers around it.
-use mathlib.Core.Path.{_≡_, refl}
+-- Velocities, and whatever else is said of the faces in a line from wall to wall, by the tests that the code makes at face k: what is 0 on both walls and
+-- follows a rule between them, and what stands at the face before.
 use Prim.Native.Nat.{ℕ, zero, suc, _-_, _≤_, _<_}
+use mathlib.Core.Path.{_≡_, refl, _∙_}
+use mathlib.Core.Bool.{Bool, true, false, cond, _||_, true≢false}
+use native.Mathlib.Nat.{zero-lt-suc}
 use native.Mathlib.Omega.{arith}
-use lib.IntN.{pos}
-use borrow.Author.Tests.{lt-ltb, le-ltb}
-use Rattle.rules.specs.declared.Card.{Card}
-use Rattle.rules.specs.Grid.{Field}
-use Rattle.rules.specs.Site.{Water}
-use Rattle.rules.specs.Step.{newVelocity, eastFace, northFace, newEast, newNorth}
+use borrow.Author.Tests.{lt-ltb, le-ltb, eqb-true, eqb-false, ne-eqb}
+use lib.IntN.{ℤ, pos}
+use lib.Dec.{eqb, ltb}
+use Rattle.rules.specs.Step.{before}
 
-module _ (c : Card) (g : Field) (w : Water) where
-  pub west-wall : (i j : ℕ) → i ≡ 0 → newEast c g w i j ≡ pos 0
-  unfolding newEast
-  west-wall i j e = rw e
+-- face k is a wall of a line that runs from face 0 to face n
+abbrev pub isEnd : ℕ → ℕ → Bool
+isEnd n k = eqb k 0 || eqb k n
 
-  pub east-wall : (i j : ℕ) → i ≡ c .columns → newEast c g w i j ≡ pos 0
-  unfolding newEast
-  east-wall zero j e = refl
-  east-wall (suc i) j e = let h : c .columns ≤ suc i = omega arith in rw (le-ltb (suc i) (c .columns) h)
+end-suc : (n k : ℕ) → isEnd n (suc k) ≡ eqb (suc k) n
+end-suc n k = rw (ne-eqb (suc k) 0 (λ e. omega arith))
 
-  pub south-wall : (i j : ℕ) → j ≡ 0 → newNorth c g w i j ≡ pos 0
-  unfolding newNorth
-  south-wall i j e = rw e
+pub record Inside (n k : ℕ) : Type 0 where
+  pub low : 0 < k
+  pub other : (k ≡ n) → ⊥
 
-  pub north-wall : (i j : ℕ) → j ≡ c .rows → newNorth c g w i j ≡ pos 0
-  unfolding newNorth
-  north-wall i zero e = refl
-  north-wall i (suc j) e = let h : c .rows ≤ suc j = omega arith in rw (le-ltb (suc j) (c .rows) h)
+pub no-end : (n k : ℕ) → isEnd n k ≡ false → Inside n k
+no-end n zero e = absurd (true≢false e)
+no-end n (suc k) e = record { low = omega arith; other = eqb-false (suc k) n (rw end-suc at e) }
 
-  pub east-inner : (i j : ℕ) → 0 < i → i < c .columns → newEast c g w i j ≡ newVelocity (c .dt) (c .dx) (eastFace c g w (i - 1) j)
-  unfolding newEast
-  east-inner zero j h k = absurd (omega arith)
-  east-inner (suc i) j h k = let e : suc i - 1 ≡ i = omega arith in rw (lt-ltb (suc i) (c .columns) k, e)
+-- up to the end, the test for a face before it is the test for the end the other way round
+until : (n k : ℕ) (x y : ℤ) → k ≤ n → cond (ltb k n) x y ≡ cond (eqb k n) y x
+until n k x y h = go (eqb k n) refl
+  where
+    go : (t : Bool) → eqb k n ≡ t → cond (ltb k n) x y ≡ cond t y x
+    go true e = let b : n ≤ k = omega (arith, eqb-true k n e) in rw (le-ltb k n b)
+    go false e = let other : (k ≡ n) → ⊥ = eqb-false k n e in let b : k < n = omega arith in rw (lt-ltb k n b)
 
-  pub north-inner : (i j : ℕ) → 0 < j → j < c .rows → newNorth c g w i j ≡ newVelocity (c .dt) (c .dy) (northFace c g w i (j - 1))
-  unfolding newNorth
-  north-inner i zero h k = absurd (omega arith)
-  north-inner i (suc j) h k = let e : suc j - 1 ≡ j = omega arith in rw (lt-ltb (suc j) (c .rows) k, e)
+-- v follows the rule f between the two walls, and is 0 on both
+pub inner-is : (n : ℕ) (f v : ℕ → ℤ) → v 0 ≡ pos 0 → ((k : ℕ) → v (suc k) ≡ cond (ltb (suc k) n) (f k) (pos 0))
+    → (k : ℕ) → k ≤ n → v k ≡ cond (isEnd n k) (pos 0) (f (k - 1))
+inner-is n f v first rule zero h = first
+inner-is n f v first rule (suc k) h =
+    let e : suc k - 1 ≡ k = omega arith in
+    rule k ∙ until n (suc k) (f k) (pos 0) h ∙ rw (end-suc, e)
+
+-- what stands at the face before; the first has none
+pub before-is : (f : ℕ → ℤ) (k : ℕ) → before f k ≡ cond (ltb 0 k) (f (k - 1)) (pos 0)
+unfolding before
+before-is f zero = refl
+before-is f (suc k) = let e : suc k - 1 ≡ k = omega arith in rw (lt-ltb 0 (suc k) (zero-lt-suc k), e)

@@ -1,194 +1,75 @@
--- What is gathered around an inner face: the places lie within the lists, and what stands there is `eastFace` or `northFace` of document 01.
-use Prim.Native.Nat.{ℕ, zero, suc, _+_, _*_, _-_, _≤_, _<_}
-use mathlib.Core.Path.{_≡_, refl, sym, ap, _∙_}
-use mathlib.Core.Bool.{cond}
+-- Around a face, said once for both ways that faces point: the faces of a cell and the cells of a face lie where they should, and the numbers between two
+-- cells are those of `eastFace` and `northFace`.
+use Prim.Native.Nat.{ℕ, _≤_, _<_}
+use mathlib.Core.Path.{_≡_, refl}
+use mathlib.Core.Bool.{Bool, true, false, not, cond, true≢false, false≢true}
 use mathlib.Core.List.{List}
-use native.Mathlib.Numerals.{add-one}
-use native.Mathlib.Nat.{zero-lt-suc, mul-le-mul-right}
 use native.Mathlib.Omega.{arith}
-use borrow.Author.Tests.{lt-ltb}
-use lib.IntN.{ℤ, pos}
-use lib.ListN.{length, getD}
-use lib.Dec.{ltb}
-use lib.Arith.{digits-lt}
+use lib.IntN.{ℤ}
 use Rattle.rules.specs.declared.Card.{Card}
-use Rattle.rules.specs.Site.{Water, readGround, readState, stateLength}
-use Rattle.rules.specs.Step.{after, before, eastFace, northFace}
-use Rattle.laws.specs.Places.{height-in, east-in, north-in}
-use Rattle.laws.specs.Reading.{Holds, long-of, height-read, east-read, north-read}
-use Rattle.heights.proofs.Sites.{facts, state-long}
-use Rattle.heights.specs.Known.{Sound}
-use Rattle.velocities.specs.declared.faces.Places.{Places}
-use Rattle.heights.specs.Tide.{tide}
-use Rattle.velocities.specs.Faces.{Flowing, AtEast, AtNorth, Cell, EastPlaces, NorthPlaces, InLists, faceAt, HasAfter, HasBefore}
+use Rattle.rules.specs.Grid.{Field}
+use Rattle.rules.specs.Site.{Water}
+use Rattle.rules.specs.Step.{eastFace, northFace}
+use Rattle.laws.specs.Velocities.{no-end}
+use Rattle.heights.specs.Ways.{across, up, isWall, back, speeds, transfers}
+use Rattle.velocities.specs.Around.{forth, speedAbove, speedBelow, between, FaceIn}
+use Rattle.velocities.specs.Faces.{Flowing, AtFace, innerFace}
 
--- the word beside a face, after it and before it, at a place that goes by strides
-module _ (s : List ℤ) (f : ℕ → ℤ) (at stride : ℕ) where
-  after-is : (n k : ℕ) → getD s (at + stride) (pos 0) ≡ f (suc k) → cond (ltb (k + 1) n) (getD s (at + stride) (pos 0)) (pos 0) ≡ after n f k
-  unfolding after
-  after-is n k e = rw (add-one k, e)
+pub forth-more : (one : Bool) (n : ℕ) → n ≤ forth one n
+unfolding forth
+forth-more true n = omega arith
+forth-more false n = omega arith
 
-  before-is : (k : ℕ) → ((m : ℕ) → k ≡ suc m → getD s (at - stride) (pos 0) ≡ f m)
-      → cond (ltb 0 k) (getD s (at - stride) (pos 0)) (pos 0) ≡ before f k
-  unfolding before
-  before-is zero e = refl
-  before-is (suc k) e = rw (lt-ltb 0 (suc k) (zero-lt-suc k), e k refl)
+pub forth-back : (one : Bool) {n m : ℕ} → n < back one m → forth one n < m
+unfolding forth back
+forth-back true h = omega arith
+forth-back false h = h
 
-module _ {c : Card} {g s t : List ℤ} (f : Flowing c g s t) where
-  abbrev pub sound-of : Sound c s
-  sound-of = record { ground = g; passes = f .passes }
+-- ---- The faces of a cell: the near one and the far one
 
-  pub cell-of : {i j : ℕ} → i < c .columns → j < c .rows → Cell c i j
-  cell-of {i} {j} hi hj =
-      let b : i < suc (c .columns) = omega arith in
-      let card = facts sound-of .card in
-      record {
-        columns = card .columns-high;
-        cells = card .cells-high;
-        faces = card .easts-high;
-        cell = digits-lt hj hi;
-        face = digits-lt hj b;
-      }
+pub record Cell (c : Card) (i j : ℕ) : Type 0 where
+  pub column : i < c .columns
+  pub row : j < c .rows
 
-module _ {c : Card} {g s t : List ℤ} {i j : ℕ} {p : Places} (a : AtEast c g s t i j) (e : EastPlaces c i j p) where
-  pub east-in-lists : InLists p g s t
-  east-in-lists =
-      let state : length s ≡ stateLength c = state-long (sound-of (a .flowing)) in
-      let ground : length g ≡ c .rows * c .columns = facts (sound-of (a .flowing)) .lengths .ground in
-      let k : i < c .columns = omega (arith, a .column) in
-      let l : suc i < c .columns = omega (arith, a .column) in
-      let ahead : suc (suc i) ≤ c .columns = omega (arith, a .column) in
-      let below : j ≤ c .rows = omega (arith, a .row) in
-      let above : suc j ≤ c .rows = omega (arith, a .row) in
-      record {
-        same = long-of (a .flowing .tide) ∙ sym state;
-        groundK = omega (arith, e .k, digits-lt (a .row) k);
-        groundL = omega (arith, e .l, digits-lt (a .row) l);
-        k = omega (arith, e .k, height-in c state k (a .row));
-        l = omega (arith, e .l, height-in c state l (a .row));
-        own = omega (arith, e .own, east-in c state k (a .row));
-        ahead = omega (arith, e .ahead, east-in c state ahead (a .row));
-        behind = omega (arith, e .behind, east-in c state k (a .row));
-        aboveK = omega (arith, e .aboveK, north-in c state k above);
-        aboveL = omega (arith, e .aboveL, north-in c state l above);
-        belowK = omega (arith, e .belowK, north-in c state k below);
-        belowL = omega (arith, e .belowL, north-in c state l below);
-      }
+module _ {c : Card} {i j : ℕ} where
+  pub near-in : (east : Bool) → Cell c i j → FaceIn c east i j
+  unfolding across up
+  near-in true k = record { column = omega arith; row = omega arith }
+  near-in false k = record { column = omega arith; row = omega arith }
 
-  pub east-after : HasAfter (c .rows) j (p .own) (c .columns + 1) s
-  east-after =
-      let k : suc i ≤ c .columns = omega (arith, a .column) in
-      record { inside = a .row; long = λ h. let r : suc j < c .rows = omega (arith, h) in omega (arith, e .own, east-in c (state-long (sound-of (a .flowing))) k r) }
+  pub far-in : (east : Bool) → Cell c i j → FaceIn c east (forth east i) (forth (not east) j)
+  unfolding across up forth
+  far-in true k = record { column = omega arith; row = omega arith }
+  far-in false k = record { column = omega arith; row = omega arith }
 
-  pub east-before : HasBefore j (p .own) (c .columns + 1) s
-  east-before =
-      record {
-        inside = east-in-lists .own;
-        back = λ h. let m : 1 * suc (c .columns) ≤ j * suc (c .columns) = mul-le-mul-right (suc (c .columns)) h in omega (arith, e .own);
-      }
+-- ---- The cells of an inner face
 
-  module _ {uAbove uBelow : ℤ} where
-    pub east-is : uAbove ≡ cond (ltb (j + 1) (c .rows)) (getD s (p .own + (c .columns + 1)) (pos 0)) (pos 0)
-        → uBelow ≡ cond (ltb 0 j) (getD s (p .own - (c .columns + 1)) (pos 0)) (pos 0)
-        → faceAt g s t p uAbove uBelow ≡ eastFace c (readGround c g) (readState c s) i j
-    unfolding faceAt eastFace readGround readState tide
-    east-is above below =
-        let w : Water = readState c s in
-        let at : ℕ → ℤ = λ n. getD s n (pos 0) in
-        let ground : ℕ → ℤ = λ n. getD g n (pos 0) in
-        let k : i < c .columns = omega (arith, a .column) in
-        let l : suc i < c .columns = omega (arith, a .column) in
-        let north : suc j ≤ c .rows = omega (arith, a .row) in
-        let south : j ≤ c .rows = omega (arith, a .row) in
-        let held : Holds c (tide c w) t = a .flowing .tide in
-        let east : ℕ → ℤ = λ r. w .east (suc i) r in
-        let next : p .own + (c .columns + 1) ≡ c .rows * c .columns + (suc j * suc (c .columns) + suc i) = omega (arith, e .own) in
-        λ x. record {
-          oldK = ap at (e .k) x;
-          oldL = ap at (e .l) x;
-          newK = height-read held i j k (a .row) (e .k) x;
-          newL = height-read held (suc i) j l (a .row) (e .l) x;
-          groundK = ap ground (e .k) x;
-          groundL = ap ground (e .l) x;
-          own = east-read held (suc i) j k (a .row) (e .own) x;
-          ahead = east-read held (suc (suc i)) j l (a .row) (e .ahead) x;
-          behind = east-read held i j (omega (arith, k)) (a .row) (e .behind) x;
-          aboveK = north-read held i (suc j) k north (e .aboveK) x;
-          aboveL = north-read held (suc i) (suc j) l north (e .aboveL) x;
-          belowK = north-read held i j k south (e .belowK) x;
-          belowL = north-read held (suc i) j l south (e .belowL) x;
-          u = ap at (e .own) x;
-          uAhead = ap at (e .ahead) x;
-          uBehind = ap at (e .behind) x;
-          uAbove = (above ∙ after-is s east (p .own) (c .columns + 1) (c .rows) j (ap at next)) x;
-          uBelow = (below ∙ before-is s east (p .own) (c .columns + 1) j (λ m q. ap at (omega (arith, e .own, ap (λ (n : ℕ). n * suc (c .columns)) q)))) x;
-        }
+module _ {c : Card} {g s t : List ℤ} {east : Bool} {i j : ℕ} (a : AtFace c g s t east i j) where
+  pub cell-k : Cell c i j
+  cell-k = record { column = omega (arith, forth-more east i, a .column); row = omega (arith, forth-more (not east) j, a .row) }
 
-module _ {c : Card} {g s t : List ℤ} {i j : ℕ} {p : Places} (a : AtNorth c g s t i j) (e : NorthPlaces c i j p) where
-  pub north-in-lists : InLists p g s t
-  north-in-lists =
-      let state : length s ≡ stateLength c = state-long (sound-of (a .flowing)) in
-      let ground : length g ≡ c .rows * c .columns = facts (sound-of (a .flowing)) .lengths .ground in
-      let k : j < c .rows = omega (arith, a .row) in
-      let l : suc j < c .rows = omega (arith, a .row) in
-      let ahead : suc (suc j) ≤ c .rows = omega (arith, a .row) in
-      let below : i ≤ c .columns = omega (arith, a .column) in
-      let above : suc i ≤ c .columns = omega (arith, a .column) in
-      record {
-        same = long-of (a .flowing .tide) ∙ sym state;
-        groundK = omega (arith, e .k, digits-lt k (a .column));
-        groundL = omega (arith, e .l, digits-lt l (a .column));
-        k = omega (arith, e .k, height-in c state (a .column) k);
-        l = omega (arith, e .l, height-in c state (a .column) l);
-        own = omega (arith, e .own, north-in c state (a .column) k);
-        ahead = omega (arith, e .ahead, north-in c state (a .column) ahead);
-        behind = omega (arith, e .behind, north-in c state (a .column) k);
-        aboveK = omega (arith, e .aboveK, east-in c state above k);
-        aboveL = omega (arith, e .aboveL, east-in c state above l);
-        belowK = omega (arith, e .belowK, east-in c state below k);
-        belowL = omega (arith, e .belowL, east-in c state below l);
-      }
+  pub cell-l : {iL jL : ℕ} → iL ≡ forth east i → jL ≡ forth (not east) j → Cell c iL jL
+  cell-l d e = record { column = rw d (a .column); row = rw e (a .row) }
 
-  pub north-after : HasAfter (c .columns) i (p .own) 1 s
-  north-after =
-      let k : suc j ≤ c .rows = omega (arith, a .row) in
-      record { inside = a .column; long = λ h. let r : suc i < c .columns = omega (arith, h) in omega (arith, e .own, north-in c (state-long (sound-of (a .flowing))) r k) }
+-- a face that is no wall has a cell behind it
+pub inner-at : {c : Card} {g s t : List ℤ} {i j : ℕ} → Flowing c g s t → (east : Bool) → FaceIn c east i j → isWall c east i j ≡ false → AtFace c g s t east (back east i) (back (not east) j)
+unfolding across up isWall back forth
+inner-at {c} {g} {s} {t} {i} {j} f true p e = let line = no-end (c .columns) i e in record { flowing = f; column = omega arith; row = p .row }
+inner-at {c} {g} {s} {t} {i} {j} f false p e = let line = no-end (c .rows) j e in record { flowing = f; column = p .column; row = omega arith }
 
-  pub north-before : HasBefore i (p .own) 1 s
-  north-before = record { inside = north-in-lists .own; back = λ h. omega (arith, e .own) }
+-- and going back from it takes nothing from 0
+pub past-wall : (c : Card) (east : Bool) (i j : ℕ) → isWall c east i j ≡ false → 0 < cond east i j
+unfolding isWall
+past-wall c true i j e = no-end (c .columns) i e .low
+past-wall c false i j e = no-end (c .rows) j e .low
 
-  module _ {uAbove uBelow : ℤ} where
-    pub north-is : uAbove ≡ cond (ltb (i + 1) (c .columns)) (getD s (p .own + 1) (pos 0)) (pos 0)
-        → uBelow ≡ cond (ltb 0 i) (getD s (p .own - 1) (pos 0)) (pos 0)
-        → faceAt g s t p uAbove uBelow ≡ northFace c (readGround c g) (readState c s) i j
-    unfolding faceAt northFace readGround readState tide
-    north-is above below =
-        let w : Water = readState c s in
-        let at : ℕ → ℤ = λ n. getD s n (pos 0) in
-        let ground : ℕ → ℤ = λ n. getD g n (pos 0) in
-        let k : j < c .rows = omega (arith, a .row) in
-        let l : suc j < c .rows = omega (arith, a .row) in
-        let east : suc i ≤ c .columns = omega (arith, a .column) in
-        let west : i ≤ c .columns = omega (arith, a .column) in
-        let held : Holds c (tide c w) t = a .flowing .tide in
-        let north : ℕ → ℤ = λ r. w .north r (suc j) in
-        λ x. record {
-          oldK = ap at (e .k) x;
-          oldL = ap at (e .l) x;
-          newK = height-read held i j (a .column) k (e .k) x;
-          newL = height-read held i (suc j) (a .column) l (e .l) x;
-          groundK = ap ground (e .k) x;
-          groundL = ap ground (e .l) x;
-          own = north-read held i (suc j) (a .column) k (e .own) x;
-          ahead = north-read held i (suc (suc j)) (a .column) l (e .ahead) x;
-          behind = north-read held i j (a .column) (omega (arith, k)) (e .behind) x;
-          aboveK = east-read held (suc i) j east k (e .aboveK) x;
-          aboveL = east-read held (suc i) (suc j) east l (e .aboveL) x;
-          belowK = east-read held i j west k (e .belowK) x;
-          belowL = east-read held i (suc j) west l (e .belowL) x;
-          u = ap at (e .own) x;
-          uAhead = ap at (e .ahead) x;
-          uBehind = ap at (e .behind) x;
-          uAbove = (above ∙ after-is s north (p .own) 1 (c .columns) i (ap at (omega (arith, e .own)))) x;
-          uBelow = (below ∙ before-is s north (p .own) 1 i (λ m q. ap at (omega (arith, e .own, q)))) x;
-        }
+pub picked : (one : Bool) (m n : ℕ) → 0 < cond one m n → ((one ≡ true) → 0 < m) × ((one ≡ false) → 0 < n)
+picked true m n h = (λ e. h, λ e. absurd (true≢false e))
+picked false m n h = (λ e. absurd (false≢true e), λ e. h)
+
+-- ---- The numbers around an inner face
+
+pub between-is : (c : Card) (g : Field) (w : Water) (east : Bool) (i j : ℕ) → between c g w east i j (forth east i) (forth (not east) j) ≡ innerFace c g w east i j
+unfolding between innerFace eastFace northFace forth speeds transfers speedAbove speedBelow
+between-is c g w true i j = refl
+between-is c g w false i j = refl

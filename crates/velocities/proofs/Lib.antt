@@ -1,3 +1,7 @@
+pub mod Abreast
 pub mod Around
+pub mod Flows
+pub mod Places
 pub mod Ranges
 pub mod Speeds
+pub mod Velocities

@@ -1,6 +1,7 @@
 -- The numbers around an inner face are in their ranges: what the arithmetic of a face requires.
-use Prim.Native.Nat.{ℕ, zero, suc, _≤_, _<_, zero-le}
-use mathlib.Core.Bool.{Bool, true, false, cond}
+use Prim.Native.Nat.{ℕ, zero, suc, zero-le}
+use mathlib.Core.Path.{refl}
+use mathlib.Core.Bool.{Bool, true, false, not, cond}
 use mathlib.Core.List.{List}
 use native.Mathlib.Omega.{arith}
 use lib.IntN.{ℤ, pos}
@@ -8,16 +9,18 @@ use lib.Signed.{leZ}
 use lib.Dec.{ltb}
 use Rattle.rules.specs.declared.Card.{Card}
 use Rattle.rules.specs.Site.{Water, readGround, readState}
-use Rattle.rules.specs.Step.{after, before, newHeight, heightsFit, eastFace, northFace}
+use Rattle.rules.specs.Step.{after, before, newHeight, heightsFit}
 use Rattle.laws.specs.Tests.{to-T}
 use Rattle.laws.specs.Grids.{allAt-at}
 use Rattle.laws.specs.Sizes.{Within}
 use Rattle.laws.specs.Bounded.{new-low}
-use Rattle.face.specs.Ranges.{Height, Ground, FaceFits}
-use Rattle.heights.specs.Known.{Sound, Limited}
-use Rattle.velocities.specs.Faces.{Flowing, AtEast, AtNorth}
-use Rattle.heights.proofs.Sites.{facts, depths, height-fits, east-fits, north-fits, east-crossed, north-crossed}
-use Rattle.velocities.proofs.Around.{sound-of}
+use Rattle.face.specs.Ranges.{Height, Ground, Speed, Transfer, FaceFits}
+use Rattle.heights.specs.Ways.{speeds, transfers}
+use Rattle.heights.proofs.Sites.{facts, depths, height-fits, speed-fits, crossed}
+use Rattle.velocities.specs.Around.{speedAbove, speedBelow, between, FaceIn}
+use Rattle.velocities.specs.Faces.{Flowing, AtFace, innerFace}
+use Rattle.velocities.proofs.Around.{Cell, near-in, far-in, cell-k, cell-l, between-is}
+use Rattle.velocities.proofs.Flows.{sound-of}
 
 -- beside a face stands another one, or a wall
 module _ {N : ℕ} (f : ℕ → ℤ) (h : (k : ℕ) → Within N (f k)) where
@@ -35,76 +38,50 @@ module _ {N : ℕ} (f : ℕ → ℤ) (h : (k : ℕ) → Within N (f k)) where
   before-within (suc k) = h k
 
 module _ {c : Card} {g s t : List ℤ} (f : Flowing c g s t) where
-  limited : Limited c s
-  limited = record { sound = sound-of f; limit = f .limit }
-
-  new-fits : (i j : ℕ) → i < c .columns → j < c .rows → Height (newHeight c (readState c s) i j)
+  new-fits : {i j : ℕ} → Cell c i j → Height (newHeight c (readState c s) i j)
   unfolding heightsFit
-  new-fits i j hi hj =
+  new-fits {i} {j} k =
       let w : Water = readState c s in
       let card = facts (sound-of f) .card in
       record {
-        low = new-low c w (omega arith) (omega arith) (depths (sound-of f)) (to-T (f .limit)) i j hi hj;
-        high = allAt-at (c .columns) (c .rows) (λ i j. leZ (newHeight c w i j) (pos 50000000)) (to-T (f .heights)) i j hi hj;
+        low = new-low c w (omega arith) (omega arith) (depths (sound-of f)) (to-T (f .limit)) i j (k .column) (k .row);
+        high = allAt-at (c .columns) (c .rows) (λ i j. leZ (newHeight c w i j) (pos 50000000)) (to-T (f .heights)) i j (k .column) (k .row);
       }
+
+  old-fits : {i j : ℕ} → Cell c i j → Height (readState c s .height i j)
+  old-fits {i} {j} k = height-fits (sound-of f) i j (k .column) (k .row)
 
   ground-fits : (i j : ℕ) → Ground (readGround c g i j)
   ground-fits i j = record { size = facts (sound-of f) .ground-at i j }
 
-pub east-face-fits : {c : Card} {g s t : List ℤ} {i j : ℕ} → AtEast c g s t i j → FaceFits (eastFace c (readGround c g) (readState c s) i j)
-unfolding eastFace
-east-face-fits {c} {g} {s} {t} {i} {j} a =
-    let f : Flowing c g s t = a .flowing in
-    let sound : Sound c s = sound-of f in
-    let k : i < c .columns = omega (arith, a .column) in
-    let l : suc i < c .columns = omega (arith, a .column) in
-    let south : j ≤ c .rows = omega (arith, a .row) in
-    record {
-      oldK = height-fits sound i j k (a .row);
-      oldL = height-fits sound (suc i) j l (a .row);
-      newK = new-fits f i j k (a .row);
-      newL = new-fits f (suc i) j l (a .row);
-      groundK = ground-fits f i j;
-      groundL = ground-fits f (suc i) j;
-      own = east-crossed (limited f) (suc i) j k (a .row);
-      ahead = east-crossed (limited f) (suc (suc i)) j l (a .row);
-      behind = east-crossed (limited f) i j (omega (arith, k)) (a .row);
-      aboveK = north-crossed (limited f) i (suc j) k (a .row);
-      aboveL = north-crossed (limited f) (suc i) (suc j) l (a .row);
-      belowK = north-crossed (limited f) i j k south;
-      belowL = north-crossed (limited f) (suc i) j l south;
-      u = east-fits sound (suc i) j;
-      uAhead = east-fits sound (suc (suc i)) j;
-      uBehind = east-fits sound i j;
-      uAbove = after-within (λ r. readState c s .east (suc i) r) (east-fits sound (suc i)) (c .rows) j;
-      uBelow = before-within (λ r. readState c s .east (suc i) r) (east-fits sound (suc i)) j;
-    }
+  crossed-fits : {east : Bool} {i j : ℕ} → FaceIn c east i j → Transfer (transfers c (readState c s) east i j)
+  crossed-fits {east} {i} {j} p = crossed (record { sound = sound-of f; limit = f .limit }) east i j (p .column) (p .row)
 
-pub north-face-fits : {c : Card} {g s t : List ℤ} {i j : ℕ} → AtNorth c g s t i j → FaceFits (northFace c (readGround c g) (readState c s) i j)
-unfolding northFace
-north-face-fits {c} {g} {s} {t} {i} {j} a =
-    let f : Flowing c g s t = a .flowing in
-    let sound : Sound c s = sound-of f in
-    let k : j < c .rows = omega (arith, a .row) in
-    let l : suc j < c .rows = omega (arith, a .row) in
-    let west : i ≤ c .columns = omega (arith, a .column) in
-    record {
-      oldK = height-fits sound i j (a .column) k;
-      oldL = height-fits sound i (suc j) (a .column) l;
-      newK = new-fits f i j (a .column) k;
-      newL = new-fits f i (suc j) (a .column) l;
-      groundK = ground-fits f i j;
-      groundL = ground-fits f i (suc j);
-      own = north-crossed (limited f) i (suc j) (a .column) k;
-      ahead = north-crossed (limited f) i (suc (suc j)) (a .column) l;
-      behind = north-crossed (limited f) i j (a .column) (omega (arith, k));
-      aboveK = east-crossed (limited f) (suc i) j (a .column) k;
-      aboveL = east-crossed (limited f) (suc i) (suc j) (a .column) l;
-      belowK = east-crossed (limited f) i j west k;
-      belowL = east-crossed (limited f) i (suc j) west l;
-      u = north-fits sound i (suc j);
-      uAhead = north-fits sound i (suc (suc j));
-      uBehind = north-fits sound i j;
-      uAbove = after-within (λ r. readState c s .north r (suc j)) (λ r. north-fits sound r (suc j)) (c .columns) i;
-      uBelow = before-within (λ r. readState c s .north r (suc j)) (λ r. north-fits sound r (suc j)) i;
-    }
+  module _ (east : Bool) {i j iL jL : ℕ} (k : Cell c i j) (l : Cell c iL jL) where
+    between-fits : FaceFits (between c (readGround c g) (readState c s) east i j iL jL)
+    unfolding between speedAbove speedBelow
+    between-fits =
+        let speed : (m n : ℕ) → Speed (speeds (readState c s) east m n) = speed-fits (sound-of f) east in
+        record {
+          oldK = old-fits k;
+          oldL = old-fits l;
+          newK = new-fits k;
+          newL = new-fits l;
+          groundK = ground-fits i j;
+          groundL = ground-fits iL jL;
+          own = crossed-fits (near-in east l);
+          ahead = crossed-fits (far-in east l);
+          behind = crossed-fits (near-in east k);
+          aboveK = crossed-fits (far-in (not east) k);
+          aboveL = crossed-fits (far-in (not east) l);
+          belowK = crossed-fits (near-in (not east) k);
+          belowL = crossed-fits (near-in (not east) l);
+          u = speed _ _;
+          uAhead = speed _ _;
+          uBehind = speed _ _;
+          uAbove = after-within _ (λ n. speed _ _) _ _;
+          uBelow = before-within _ (λ n. speed _ _) _;
+        }
+
+pub face-fits : {c : Card} {g s t : List ℤ} {east : Bool} {i j : ℕ} → AtFace c g s t east i j → FaceFits (innerFace c (readGround c g) (readState c s) east i j)
+face-fits {c} {g} {s} {t} {east} {i} {j} a = rw (← between-is c (readGround c g) (readState c s) east i j) (between-fits (a .flowing) east (cell-k a) (cell-l a refl refl))

@@ -1,3 +1,4 @@
+pub mod Around
 pub mod Faces
 pub mod Shares
 pub mod Velocities

@@ -6,11 +6,8 @@ use lib.IntN.{ℤ, pos}
 use lib.Signed.{leZ}
 use Rattle.rules.specs.declared.Card.{Card}
 use Rattle.rules.specs.Site.{readGround, readState}
-use Rattle.rules.specs.Step.{eastFace, northFace, ownShare}
+use Rattle.rules.specs.Step.{ownShare}
+use Rattle.velocities.specs.Faces.{innerFace}
 
--- of the eastward face (i + 1, j), and of the northward face (i, j + 1)
-abbrev pub eastShareFits : Card → (ground state : List ℤ) → ℕ → ℕ → Bool
-eastShareFits c g s i j = leZ (pos 0) (ownShare (eastFace c (readGround c g) (readState c s) i j))
-
-abbrev pub northShareFits : Card → (ground state : List ℤ) → ℕ → ℕ → Bool
-northShareFits c g s i j = leZ (pos 0) (ownShare (northFace c (readGround c g) (readState c s) i j))
+abbrev pub shareFits : Card → (ground state : List ℤ) → Bool → ℕ → ℕ → Bool
+shareFits c g s east i j = leZ (pos 0) (ownShare (innerFace c (readGround c g) (readState c s) east i j))

@@ -2,3 +2,4 @@
 mod faces;
 pub mod passes;
 pub mod shares;
+mod words;

@@ -1,6 +1,7 @@
 // The velocities of the next state, in the part of it that starts behind the heights: two passes, each left at the first velocity out of
 // range. Two divisions for each inner face; none on the walls.
 use super::faces;
+use heights::ways;
 use rules::Card;
 ghost use mathlib.Core.Path.{_≡_};
 ghost use Prim.Native.Nat.{suc, _+_, _*_};
@@ -8,86 +9,55 @@ ghost use Rattle.rules.specs.Grid.{grid, allAt};
 ghost use Rattle.rules.specs.Site.{readGround, readState, speedFits};
 ghost use Rattle.rules.specs.Step.{speedsFit};
 ghost use Rattle.laws.specs.Tested.{Filled};
-ghost use Rattle.velocities.specs.Velocities.{OnEast, OnNorth, Room, eastVelocities, northVelocities, nextVelocities};
+ghost use Rattle.heights.specs.Ways as Ways;
+ghost use Rattle.velocities.specs.Velocities.{OnFace, Room, newSpeeds, nextVelocities};
 
-// The new velocity of an eastward face.
-fn east_velocity(card: Card, ground: &[i32], state: &[i32], tide: &[i32], i: usize, j: usize) -> i64
-    requires { ⌜ OnEast card (now ground) (now state) (now tide) i j ⌝ }
-    ensures { λ r. ⌜ r ≡ eastVelocities card (now (ground .entry)) (now (state .entry)) i j ⌝ }
-{
-    let columns = card.columns as usize;
-    if i == 0 {
-        return 0;
-    }
-    if i == columns {
-        return 0;
-    }
-    face::new_velocity(
-        faces::east_face(card, ground, state, tide, i - 1, j),
-        card.dt,
-        card.dx,
-    )
-}
-
-// The new velocity of a northward face.
-fn north_velocity(
+// The new velocity of a face.
+fn velocity(
     card: Card,
+    east: bool,
     ground: &[i32],
     state: &[i32],
     tide: &[i32],
     i: usize,
     j: usize,
 ) -> i64
-    requires { ⌜ OnNorth card (now ground) (now state) (now tide) i j ⌝ }
-    ensures { λ r. ⌜ r ≡ northVelocities card (now (ground .entry)) (now (state .entry)) i j ⌝ }
+    requires { ⌜ OnFace card (now ground) (now state) (now tide) east i j ⌝ }
+    ensures { λ r. ⌜ r ≡ newSpeeds card (now (ground .entry)) (now (state .entry)) east i j ⌝ }
 {
-    let rows = card.rows as usize;
-    if j == 0 {
+    if ways::is_wall(card, east, i, j) {
         return 0;
     }
-    if j == rows {
-        return 0;
-    }
+    let k = ways::back(east, i);
+    let l = ways::back(!east, j);
     face::new_velocity(
-        faces::north_face(card, ground, state, tide, i, j - 1),
+        faces::face(card, east, ground, state, tide, k, l),
         card.dt,
-        card.dy,
+        ways::side(card, east),
     )
 }
 
-// The eastward ones.
-fn eastward(card: Card, ground: &[i32], state: &[i32], tide: &[i32], part: &mut [i32]) -> bool
-    requires { ⌜ Room card (now ground) (now state) (now tide) (card .rows * suc (card .columns)) (now part) ⌝ }
-    ensures { λ r. ⌜ Filled (allAt (suc (card .columns)) (card .rows) (λ i j. speedFits (eastVelocities card (now (ground .entry)) (now (state .entry)) i j))) (grid (suc (card .columns)) (card .rows) (eastVelocities card (now (ground .entry)) (now (state .entry)))) r (now (part .exit)) ⌝ }
+// Those of the faces that point one way.
+fn pass(
+    card: Card,
+    east: bool,
+    ground: &[i32],
+    state: &[i32],
+    tide: &[i32],
+    part: &mut [i32],
+) -> bool
+    requires { ⌜ Room card (now ground) (now state) (now tide) (Ways.up card east * Ways.across card east) (now part) ⌝ }
+    ensures { λ r. ⌜ Filled (allAt (Ways.across card east) (Ways.up card east) (λ i j. speedFits (newSpeeds card (now (ground .entry)) (now (state .entry)) east i j))) (grid (Ways.across card east) (Ways.up card east) (newSpeeds card (now (ground .entry)) (now (state .entry)) east)) r (now (part .exit)) ⌝ }
 {
-    let rows = card.rows as usize;
-    let across = card.columns as usize + 1;
-    for j in 0..rows {
+    let across = ways::across(card, east);
+    let up = ways::up(card, east);
+    for j in 0..up {
         for i in 0..across {
-            let u = east_velocity(card, ground, state, tide, i, j);
+            let u = velocity(card, east, ground, state, tide, i, j);
             if !face::speed_fits(u) {
                 return false;
             }
             lists::put(part, across, i, j, u as i32);
-        }
-    }
-    true
-}
-
-// The northward ones.
-fn northward(card: Card, ground: &[i32], state: &[i32], tide: &[i32], part: &mut [i32]) -> bool
-    requires { ⌜ Room card (now ground) (now state) (now tide) (suc (card .rows) * card .columns) (now part) ⌝ }
-    ensures { λ r. ⌜ Filled (allAt (card .columns) (suc (card .rows)) (λ i j. speedFits (northVelocities card (now (ground .entry)) (now (state .entry)) i j))) (grid (card .columns) (suc (card .rows)) (northVelocities card (now (ground .entry)) (now (state .entry)))) r (now (part .exit)) ⌝ }
-{
-    let columns = card.columns as usize;
-    let up = card.rows as usize + 1;
-    for j in 0..up {
-        for i in 0..columns {
-            let v = north_velocity(card, ground, state, tide, i, j);
-            if !face::speed_fits(v) {
-                return false;
-            }
-            lists::put(part, columns, i, j, v as i32);
         }
     }
     true
@@ -101,8 +71,8 @@ pub fn velocities(card: Card, ground: &[i32], state: &[i32], tide: &[i32], part:
     let columns = card.columns as usize;
     let rows = card.rows as usize;
     let faces = rows * (columns + 1);
-    if !eastward(card, ground, state, tide, &mut part[..faces]) {
+    if !pass(card, true, ground, state, tide, &mut part[..faces]) {
         return false;
     }
-    northward(card, ground, state, tide, &mut part[faces..])
+    pass(card, false, ground, state, tide, &mut part[faces..])
 }

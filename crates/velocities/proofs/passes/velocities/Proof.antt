@@ -10,7 +10,8 @@ use Rattle.rules.specs.Step.{speedsFit}
 use Rattle.laws.specs.Grids.{length-grid}
 use Rattle.laws.specs.Parts.{two-parts, length-part}
 use Rattle.laws.specs.Tested.{first-left, both-filled}
-use Rattle.velocities.specs.Velocities.{nextVelocities}
+use Rattle.heights.specs.Ways.{across, up}
+use Rattle.velocities.specs.Velocities.{newSpeeds, nextVelocities}
 use Rattle.velocities.proofs.passes.velocities.Statement.{statement}
 use Rattle.velocities.proofs.passes.velocities.Tie as tie
 
@@ -26,14 +27,15 @@ add-faces c = search needs
 mul-faces : tie.Need-mul-faces
 mul-faces c = search needs
 
-slice-relend-prefix-eastward : tie.Need-slice-relend-prefix-eastward
-slice-relend-prefix-eastward c = search needs
+slice-relend-prefix-pass : tie.Need-slice-relend-prefix-pass
+slice-relend-prefix-pass c = search needs
 
-slice-aggregate-eastward : tie.Need-slice-aggregate-eastward
-slice-aggregate-eastward c = sym (length-take-le _ _ (omega arith))
+slice-aggregate-pass : tie.Need-slice-aggregate-pass
+slice-aggregate-pass c = sym (length-take-le _ _ (omega arith))
 
-eastward-requires : tie.Need-eastward-requires
-eastward-requires c κs =
+pass-requires : tie.Need-pass-requires
+unfolding across up
+pass-requires c κs =
     let start = c .before .before .before in
     let card = start .args .card in
     let within : card .rows * (card .columns + 1) ≤ length (start .args .part .now) = omega arith in
@@ -43,34 +45,35 @@ same-length : tie.Need-same-length
 same-length c = search needs
 
 returns : tie.Need-returns
-unfolding speedsFit
-returns c = first-left _ (c .before .before .eastward .ensures) (not-true _ (c .if1 .taken))
+unfolding speedsFit newSpeeds across up
+returns c = first-left _ (c .before .before .pass .ensures) (not-true _ (c .if1 .taken))
 
-mul-northward : tie.Need-mul-northward
-mul-northward c = search needs
+mul-pass : tie.Need-mul-pass
+mul-pass c = search needs
 
-sub-northward : tie.Need-sub-northward
-sub-northward c = search needs
+sub-pass : tie.Need-sub-pass
+sub-pass c = search needs
 
-part-northward-start : tie.Need-part-northward-start
-part-northward-start c = search needs
+part-pass-start : tie.Need-part-pass-start
+part-pass-start c = search needs
 
-part-northward-end : tie.Need-part-northward-end
-part-northward-end c = search needs
+part-pass-end : tie.Need-part-pass-end
+part-pass-end c = search needs
 
-northward-requires : tie.Need-northward-requires
-northward-requires c κs =
+pass-requires-2 : tie.Need-pass-requires-2
+unfolding across up
+pass-requires-2 c κs =
     record { flowing = c .before .before .before .before .before .before .before .pre .flowing; long = search needs }
 
 same-length-2 : tie.Need-same-length-2
 same-length-2 c = search needs
 
 returns-2 : tie.Need-returns-2
-unfolding speedsFit nextVelocities
+unfolding speedsFit nextVelocities newSpeeds across up
 returns-2 c =
     let card = c .before .before .before .before .before .before .before .before .before .args .card in
     let long : card .rows * suc (card .columns) ≡ card .rows * (card .columns + 1) = omega arith in
-    both-filled (c .before .before .before .before .before .eastward .ensures) (not-false _ (c .before .before .before .if1 .left)) (c .before .northward .ensures)
+    both-filled (c .before .before .before .before .before .pass .ensures) (not-false _ (c .before .before .before .if1 .left)) (c .before .pass2 .ensures)
     (λ first last. two-parts _ _ first last (length-grid _ _ _ ∙ long))
 
 pub velocities-spec : {M : Type 1} → statement M
@@ -81,15 +84,15 @@ velocities-spec =
     cast-rows
     add-faces
     mul-faces
-    slice-relend-prefix-eastward
-    slice-aggregate-eastward
-    eastward-requires
+    slice-relend-prefix-pass
+    slice-aggregate-pass
+    pass-requires
     same-length
     returns
-    mul-northward
-    sub-northward
-    part-northward-start
-    part-northward-end
-    northward-requires
+    mul-pass
+    sub-pass
+    part-pass-start
+    part-pass-end
+    pass-requires-2
     same-length-2
     returns-2)

@@ -3,22 +3,24 @@ use mathlib.Core.Path.{sym, _∙_}
 use borrow.Author.Needs.{needs}
 use borrow.Author.Tests.{not-true, not-false}
 use Rattle.rules.specs.Step.{sharesFit}
+use Rattle.heights.specs.Ways.{back}
+use Rattle.velocities.specs.Faces.{innerFace}
 use Rattle.velocities.proofs.shares.shares_fit.Statement.{statement}
 use Rattle.velocities.proofs.shares.shares_fit.Tie as tie
 
-eastward-requires : tie.Need-eastward-requires
-eastward-requires c κs = search needs
+look-requires : tie.Need-look-requires
+look-requires c κs = search needs
 
 returns : tie.Need-returns
-unfolding sharesFit
-returns c = rw (sym (c .before .eastward .ensures) ∙ not-true _ (c .if1 .taken))
+unfolding sharesFit back innerFace
+returns c = rw (sym (c .before .look .ensures) ∙ not-true _ (c .if1 .taken))
 
-northward-requires : tie.Need-northward-requires
-northward-requires c κs = search needs
+look-requires-2 : tie.Need-look-requires-2
+look-requires-2 c κs = search needs
 
 returns-2 : tie.Need-returns-2
-unfolding sharesFit
-returns-2 c = rw (sym (c .before .before .eastward .ensures) ∙ not-false _ (c .before .if1 .left)) (c .northward .ensures)
+unfolding sharesFit back innerFace
+returns-2 c = rw (sym (c .before .before .look .ensures) ∙ not-false _ (c .before .if1 .left)) (c .look2 .ensures)
 
 pub shares-fit-spec : {M : Type 1} → statement M
-shares-fit-spec = tie.close (tie.spec eastward-requires returns northward-requires returns-2)
+shares-fit-spec = tie.close (tie.spec look-requires returns look-requires-2 returns-2)

@@ -1,48 +1,52 @@
--- `velocities::passes::northward` meets its contract.
+-- `velocities::passes::pass` meets its contract.
 use mathlib.Core.Path.{sym, _∙_}
 use Prim.Native.Nat.{_-_}
-use native.Mathlib.Numerals.{add-one}
+use native.Mathlib.Nat.{le-refl}
 use native.Mathlib.Omega.{arith}
 use borrow.Author.Needs.{needs}
 use borrow.Author.Tests.{not-true, not-false}
 use Rattle.rules.specs.Site.{speedFits}
 use Rattle.laws.specs.Passes.{place}
 use Rattle.laws.specs.Tested.{RowsTested, CellsTested, begin, begin-row, more, more-rows, done, left}
-use Rattle.velocities.specs.Velocities.{northVelocities}
+use Rattle.velocities.specs.Velocities.{newSpeeds}
 use Rattle.velocities.proofs.Speeds.{speed-says, speed-fits-word, speed-word}
-use Rattle.velocities.proofs.passes.northward.Statement.{statement}
-use Rattle.velocities.proofs.passes.northward.Tie as tie
+use Rattle.velocities.proofs.passes.pass.Statement.{statement}
+use Rattle.velocities.proofs.passes.pass.Tie as tie
 
 abbrev Inv-loop2 : tie.InvT-loop2
-Inv-loop2 card ground state tide part₀ columns up j i₀ part i = CellsTested columns (northVelocities card ground state) speedFits up j part₀ part i
+Inv-loop2 card east ground state tide part₀ across up j i₀ part i = CellsTested across (newSpeeds card ground state east) speedFits up j part₀ part i
 
 abbrev μ-loop2 : tie.MeasureT-loop2
-μ-loop2 card ground state tide part₀ columns up j i₀ part i = columns - i
+μ-loop2 card east ground state tide part₀ across up j i₀ part i = across - i
 
 abbrev Inv-loop : tie.InvT-loop
-Inv-loop card ground state tide part₀ columns up j₀ part j = RowsTested columns (northVelocities card ground state) speedFits up part₀ part j
+Inv-loop card east ground state tide part₀ across up j₀ part j = RowsTested across (newSpeeds card ground state east) speedFits up part₀ part j
 
 abbrev μ-loop : tie.MeasureT-loop
-μ-loop card ground state tide part₀ columns up j₀ part j = up - j
+μ-loop card east ground state tide part₀ across up j₀ part j = up - j
 
-cast-columns : tie.Need-cast-columns Inv-loop2 μ-loop2 Inv-loop μ-loop
-cast-columns c = search needs
+across-requires : tie.Need-across-requires Inv-loop2 μ-loop2 Inv-loop μ-loop
+across-requires c κs = search needs
 
-cast-up : tie.Need-cast-up Inv-loop2 μ-loop2 Inv-loop μ-loop
-cast-up c = search needs
-
-add-up : tie.Need-add-up Inv-loop2 μ-loop2 Inv-loop μ-loop
-add-up c = search needs
+up-requires : tie.Need-up-requires Inv-loop2 μ-loop2 Inv-loop μ-loop
+up-requires c κs = search needs
 
 loop-holds : tie.Need-loop-holds Inv-loop2 μ-loop2 Inv-loop μ-loop
-loop-holds c = begin (omega arith)
+loop-holds c = begin (rw (c .up .ensures, c .before .across .ensures, c .before .before .pre .long) (le-refl _))
 
 loop2-holds : tie.Need-loop2-holds Inv-loop2 μ-loop2 Inv-loop μ-loop
 loop2-holds c = begin-row (c .before .loop .inv)
 
-north-velocity-requires : tie.Need-north-velocity-requires Inv-loop2 μ-loop2 Inv-loop μ-loop
-north-velocity-requires c κs =
-    record { flowing = c .before .before .before .before .before .before .pre .flowing; column = omega arith; row = omega arith }
+velocity-requires : tie.Need-velocity-requires Inv-loop2 μ-loop2 Inv-loop μ-loop
+velocity-requires c κs =
+    let here : tie.After-up Inv-loop2 μ-loop2 Inv-loop μ-loop = c .before .before .before .before in
+    record {
+      flowing = here .before .before .pre .flowing;
+      face = record {
+        column = rw (here .before .across .ensures) at (c .loop2-test .taken);
+        row = rw (here .up .ensures) at (c .before .before .loop-test .taken);
+      };
+    }
 
 speed-fits-requires : tie.Need-speed-fits-requires Inv-loop2 μ-loop2 Inv-loop μ-loop
 speed-fits-requires c κs = search needs
@@ -54,15 +58,16 @@ same-length c =
 
 returns : tie.Need-returns Inv-loop2 μ-loop2 Inv-loop μ-loop
 returns c =
-    let v = c .before .before .north-velocity in
+    let v = c .before .before .velocity in
     let d : tie.In-loop2 Inv-loop2 μ-loop2 Inv-loop μ-loop = c .before .before .before in
-    rw (← add-one)
+    let here : tie.After-up Inv-loop2 μ-loop2 Inv-loop μ-loop = d .before .before .before .before in
+    rw (← here .before .across .ensures, ← here .up .ensures)
     (left (d .before .loop2 .inv) (d .before .before .loop-test .taken) (d .loop2-test .taken)
     (sym (speed-says (v .result) (v .ok) (v .ensures) (c .before .speed-fits .ensures)) ∙ not-true _ (c .if1 .taken)))
 
 cast-put : tie.Need-cast-put Inv-loop2 μ-loop2 Inv-loop μ-loop
 cast-put c =
-    let v = c .before .before .before .north-velocity in
+    let v = c .before .before .before .velocity in
     speed-fits-word (v .result) (v .ok) (v .ensures) (c .before .before .speed-fits .ensures) (not-false _ (c .before .if1 .left))
 
 put-requires : tie.Need-put-requires Inv-loop2 μ-loop2 Inv-loop μ-loop
@@ -80,7 +85,7 @@ loop2-again : tie.Need-loop2-again Inv-loop2 μ-loop2 Inv-loop μ-loop
 loop2-again c =
     let tested : tie.After-speed-fits Inv-loop2 μ-loop2 Inv-loop μ-loop = c .before .before .before .before in
     let fits = not-false _ (c .before .before .before .if1 .left) in
-    let v = tested .before .north-velocity in
+    let v = tested .before .velocity in
     let d : tie.In-loop2 Inv-loop2 μ-loop2 Inv-loop μ-loop = tested .before .before in
     more (d .before .loop2 .inv) (d .before .before .loop-test .taken) (d .loop2-test .taken) (c .before .put .ensures)
     (speed-word (v .result) (v .ok) (v .ensures) (tested .speed-fits .ensures) fits)
@@ -99,22 +104,24 @@ same-length-2 : tie.Need-same-length-2 Inv-loop2 μ-loop2 Inv-loop μ-loop
 same-length-2 c = c .before .loop .inv .filled .same
 
 returns-2 : tie.Need-returns-2 Inv-loop2 μ-loop2 Inv-loop μ-loop
-returns-2 c = rw (← add-one) (done (c .before .loop .inv) (c .loop-test .left) (omega arith))
+returns-2 c =
+    let here : tie.After-up Inv-loop2 μ-loop2 Inv-loop μ-loop = c .before .before in
+    rw (← here .before .across .ensures, ← here .up .ensures)
+    (done (c .before .loop .inv) (c .loop-test .left) (here .before .before .pre .long ∙ rw (here .before .across .ensures, here .up .ensures)))
 
-pub northward-spec : {M : Type 1} → statement M
-northward-spec =
+pub pass-spec : {M : Type 1} → statement M
+pass-spec =
     tie.close
     (tie.spec
     Inv-loop2
     μ-loop2
     Inv-loop
     μ-loop
-    cast-columns
-    cast-up
-    add-up
+    across-requires
+    up-requires
     loop-holds
     loop2-holds
-    north-velocity-requires
+    velocity-requires
     speed-fits-requires
     same-length
     returns
