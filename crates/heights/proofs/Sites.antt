@@ -12,26 +12,16 @@ use mir.Val.{toZ, ofZ}
 use mir.Syntax.{w32}
 use Rattle.rules.specs.declared.Card.{Card}
 use Rattle.rules.specs.Site.{readGround, readState, stateLength, cardFits, lengthsFit, valuesFit, groundsFit, depthsFit, facesFit, wallsStill, check}
-use Rattle.rules.specs.Step.{eastTransfer, northTransfer}
 use Rattle.laws.specs.Sizes.{Within}
 use Rattle.laws.specs.Signed.{word-is}
 use Rattle.laws.specs.Tests.{four-of, to-T}
 use Rattle.laws.specs.Checks.{apart}
 use Rattle.laws.specs.Facts.{Fits, check-facts}
 use Rattle.laws.specs.Bounded as bounded
-use Rattle.heights.specs.Places.{HeightPlace, FacePlace}
+use Rattle.heights.specs.Places.{HeightPlace, FaceIn, FacePlace}
 use Rattle.heights.specs.Known.{Sound, Limited}
 use Rattle.heights.specs.Ways.{across, up, side, speeds, transfers}
 use Rattle.face.specs.Ranges.{Height, Speed, Time, Side}
-
--- a face between two of n cells
-pub record Inner (n k : ℕ) : Type 0 where
-  pub above : 0 < k
-  pub below : k < n
-  pub behind : k - 1 < n
-
-pub inner : {n k : ℕ} → k ≤ n → (k ≡ 0 → ⊥) → (k ≡ n → ⊥) → Inner n k
-inner h a b = record { above = omega arith; below = omega arith; behind = omega arith }
 
 -- a word that a call returned is in its range where the number that it stands for is
 pub within-word : {n : ℕ} (z : ℤ) {x : ℤ} → mag z < 2 ^ 31 → z ≡ x → Within n x → Within n (toZ w32 (ofZ w32 z))
@@ -58,8 +48,8 @@ module _ {c : Card} {s : List ℤ} (sound : Sound c s) where
     pub height-place : i < c .columns → j < c .rows → HeightPlace c s i j
     height-place hi hj = record { long = state-long; column = hi; row = hj }
 
-    pub face-place : {east : Bool} → i < across c east → j < up c east → FacePlace c s east i j
-    face-place hi hj = record { long = state-long; column = hi; row = hj }
+    pub face-place : {east : Bool} → FaceIn c east i j → FacePlace c s east i j
+    face-place f = record { card = facts .card; long = state-long; face = f }
 
   -- ---- numbers
 
@@ -71,12 +61,6 @@ module _ {c : Card} {s : List ℤ} (sound : Sound c s) where
   pub height-within : (i j : ℕ) → i < c .columns → j < c .rows → Within 50000000 (readState c s .height i j)
   height-within i j hi hj = record { size = facts .height-high-at i j hi hj }
 
-  pub east-fits : (i j : ℕ) → Speed (readState c s .east i j)
-  east-fits i j = record { size = facts .east-at i j }
-
-  pub north-fits : (i j : ℕ) → Speed (readState c s .north i j)
-  north-fits i j = record { size = facts .north-at i j }
-
   pub speed-fits : (east : Bool) (i j : ℕ) → Speed (speeds (readState c s) east i j)
   unfolding speeds
   speed-fits true i j = record { size = facts .east-at i j }
@@ -86,12 +70,6 @@ module _ {c : Card} {s : List ℤ} (sound : Sound c s) where
 
   pub time : Time (c .dt)
   time = record { low = facts .card .dt-low; high = facts .card .dt-high }
-
-  pub side-x : Side (c .dx)
-  side-x = record { low = facts .card .dx-low; high = facts .card .dx-high }
-
-  pub side-y : Side (c .dy)
-  side-y = record { low = facts .card .dy-low; high = facts .card .dy-high }
 
   pub side-fits : (east : Bool) → Side (side c east)
   unfolding side
@@ -109,17 +87,11 @@ module _ {c : Card} {s : List ℤ} (sound : Sound c s) where
 -- ---- under the step limit: what crosses a face is at most a height
 
 module _ {c : Card} {s : List ℤ} (limited : Limited c s) where
-  pub east-crossed : (i j : ℕ) → i ≤ c .columns → j < c .rows → Within 50000000 (eastTransfer c (readState c s) i j)
-  east-crossed i j =
-      let card = facts (limited .sound) .card in
-      bounded.east-within c (readState c s) (omega arith) (omega arith) (depths (limited .sound)) (to-T (limited .limit)) i j
-
-  pub north-crossed : (i j : ℕ) → i < c .columns → j ≤ c .rows → Within 50000000 (northTransfer c (readState c s) i j)
-  north-crossed i j =
-      let card = facts (limited .sound) .card in
-      bounded.north-within c (readState c s) (omega arith) (omega arith) (depths (limited .sound)) (to-T (limited .limit)) i j
-
-  pub crossed : (east : Bool) (i j : ℕ) → i < across c east → j < up c east → Within 50000000 (transfers c (readState c s) east i j)
+  pub crossed : (east : Bool) (i j : ℕ) → FaceIn c east i j → Within 50000000 (transfers c (readState c s) east i j)
   unfolding across up transfers
-  crossed true i j hi hj = east-crossed i j (omega arith) hj
-  crossed false i j hi hj = north-crossed i j hi (omega arith)
+  crossed true i j f =
+      let card = facts (limited .sound) .card in
+      bounded.east-within c (readState c s) (omega arith) (omega arith) (depths (limited .sound)) (to-T (limited .limit)) i j (omega (arith, f .column)) (f .row)
+  crossed false i j f =
+      let card = facts (limited .sound) .card in
+      bounded.north-within c (readState c s) (omega arith) (omega arith) (depths (limited .sound)) (to-T (limited .limit)) i j (f .column) (omega (arith, f .row))

@@ -2,7 +2,7 @@
 use mathlib.Core.Path.{_≡_, sym, ap, _∙_}
 use mathlib.Core.Bool.{Bool, true, false}
 use mathlib.Core.List.{List}
-use Prim.Native.Nat.{ℕ, _*_, _<_}
+use Prim.Native.Nat.{ℕ, _*_}
 use native.Mathlib.Omega.{arith}
 use lib.IntN.{ℤ, pos}
 use lib.Signed.{leZ}
@@ -15,6 +15,7 @@ use Rattle.laws.specs.States.{height-back, east-back, north-back}
 use Rattle.laws.specs.Behind.{behind-heights, east-alike, north-alike}
 use Rattle.laws.specs.Reading.{Holds}
 use Rattle.heights.specs.Tide.{tide, crossings, tideFits}
+use Rattle.heights.specs.Places.{FaceIn}
 use Rattle.heights.specs.Known.{Crossed}
 use Rattle.heights.specs.Ways.{across, up, speeds, transfers}
 
@@ -23,14 +24,14 @@ module _ {c : Card} {s t : List ℤ} (lists : Crossed c s t) where
   unfolding crossings tide
   like-tide = lists .crossed ∙ sym (behind-heights c (tide c (readState c s)))
 
-  pub crossing : (east : Bool) (i j : ℕ) → i < across c east → j < up c east → speeds (readState c t) east i j ≡ transfers c (readState c s) east i j
+  pub crossing : (east : Bool) (i j : ℕ) → FaceIn c east i j → speeds (readState c t) east i j ≡ transfers c (readState c s) east i j
   unfolding tide across up speeds transfers
-  crossing true i j hi hj =
+  crossing true i j f =
       let w = tide c (readState c s) in
-      east-alike c t (writeState c w) like-tide i j ∙ east-back c w i j (omega arith) hj
-  crossing false i j hi hj =
+      east-alike c t (writeState c w) like-tide i j ∙ east-back c w i j (omega (arith, f .column)) (f .row)
+  crossing false i j f =
       let w = tide c (readState c s) in
-      north-alike c t (writeState c w) like-tide i j ∙ north-back c w i j hi (omega arith)
+      north-alike c t (writeState c w) like-tide i j ∙ north-back c w i j (f .column) (omega (arith, f .row))
 
 -- the heights of a list that holds the tide are the new ones
 pub tide-heights : {c : Card} (s : List ℤ) {t : List ℤ} → Holds c (tide c (readState c s)) t

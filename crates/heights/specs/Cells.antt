@@ -6,9 +6,11 @@ use lib.IntN.{ℤ}
 use lib.ListN.{length}
 use Rattle.rules.specs.declared.Card.{Card}
 use Rattle.rules.specs.Site.{readState, stateLength}
+use Rattle.laws.specs.Facts.{Ranges}
 use Rattle.heights.specs.declared.cells.Cell.{Cell}
 
 pub record CellPlace (c : Card) (h s : List ℤ) (i j : ℕ) : Type 0 where
+  pub card : Ranges c
   pub heights : length h ≡ stateLength c
   pub faces : length s ≡ stateLength c
   pub column : i < c .columns

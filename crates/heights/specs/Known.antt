@@ -10,6 +10,7 @@ use Rattle.rules.specs.Site.{readState, stateLength, check}
 use Rattle.rules.specs.Step.{transfer, limitKept}
 use Rattle.laws.specs.Sizes.{Within}
 use Rattle.face.specs.Ranges.{InTransfer}
+use Rattle.heights.specs.Places.{FaceIn}
 use Rattle.heights.specs.Tide.{crossings}
 use Rattle.heights.specs.Ways.{across, up}
 
@@ -32,8 +33,7 @@ pub record SoundCell (c : Card) (s : List ℤ) (i j : ℕ) : Type 0 where
 -- a face of such a state
 pub record LimitedFace (c : Card) (s : List ℤ) (east : Bool) (i j : ℕ) : Type 0 where
   pub limited : Limited c s
-  pub column : i < across c east
-  pub row : j < up c east
+  pub face : FaceIn c east i j
 
 -- the numbers of a face, and that what crosses it is at most a height
 pub record InCrossing (hK hL u : ℤ) (dt d : ℕ) : Type 0 where

@@ -1,5 +1,5 @@
 pub mod Ways
-pub mod Tide
 pub mod Places
+pub mod Tide
 pub mod Cells
 pub mod Known

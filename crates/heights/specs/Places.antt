@@ -7,15 +7,22 @@ use lib.IntN.{ℤ}
 use lib.ListN.{length}
 use Rattle.rules.specs.declared.Card.{Card}
 use Rattle.rules.specs.Site.{stateLength}
+use Rattle.laws.specs.Facts.{Ranges}
 use Rattle.heights.specs.Ways.{across, up}
 
--- a cell of a state, and a face
+-- a cell, in a list that has the layout of a state
 pub record HeightPlace (c : Card) (s : List ℤ) (i j : ℕ) : Type 0 where
   pub long : length s ≡ stateLength c
   pub column : i < c .columns
   pub row : j < c .rows
 
-pub record FacePlace (c : Card) (s : List ℤ) (east : Bool) (i j : ℕ) : Type 0 where
-  pub long : length s ≡ stateLength c
+-- a face: an inner one or a wall
+pub record FaceIn (c : Card) (east : Bool) (i j : ℕ) : Type 0 where
   pub column : i < across c east
   pub row : j < up c east
+
+-- and in such a list
+pub record FacePlace (c : Card) (s : List ℤ) (east : Bool) (i j : ℕ) : Type 0 where
+  pub card : Ranges c
+  pub long : length s ≡ stateLength c
+  pub face : FaceIn c east i j

@@ -36,6 +36,11 @@ unfoldable pub back : Bool → ℕ → ℕ
 back true n = n - 1
 back false n = n
 
+-- one more, or as it is: from cell K of a face on to its cell L
+unfoldable pub forth : Bool → ℕ → ℕ
+forth true n = suc n
+forth false n = n
+
 -- what stands at these faces, and what crosses them
 unfoldable pub speeds : Water → Bool → Field
 speeds w true = w .east

@@ -4,4 +4,4 @@ pub mod look;
 pub mod tide;
 pub mod transfers;
 pub mod ways;
-mod words;
+pub mod words;

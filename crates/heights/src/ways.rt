@@ -1,7 +1,7 @@
 // The two ways that faces point: eastward (`east`) and northward. Face (i, j) lies at the west side of cell (i, j), or at its south side.
 ghost use mathlib.Core.Path.{_≡_};
 ghost use mathlib.Core.Bool.{true};
-ghost use Prim.Native.Nat.{suc, _+_, _*_, _<_};
+ghost use Prim.Native.Nat.{suc, _+_, _*_, _≤_, _<_};
 ghost use Rattle.heights.specs.Ways as Ways;
 use rules::Card;
 
@@ -69,6 +69,17 @@ pub fn back(one: bool, n: usize) -> usize
 {
     if one {
         return n - 1;
+    }
+    n
+}
+
+// One more, or as it is: from cell K of a face on to its cell L.
+pub fn forth(one: bool, n: usize) -> usize
+    requires { ⌜ n ≤ 128 ⌝ }
+    ensures { λ r. ⌜ r ≡ Ways.forth one n ⌝ }
+{
+    if one {
+        return n + 1;
     }
     n
 }

@@ -28,11 +28,10 @@ pub mod Sheets
 pub mod Outcomes
 pub mod Along
 pub mod Sizes
-pub mod Ends
 pub mod Exact
 pub mod Bounded
 pub mod Tested
-pub mod Velocities
+pub mod Lines
 pub mod Behind
 pub mod Rising
 pub mod Asked

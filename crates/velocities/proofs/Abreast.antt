@@ -11,9 +11,10 @@ use Rattle.rules.specs.declared.Card.{Card}
 use Rattle.rules.specs.Site.{Water}
 use Rattle.rules.specs.Step.{after}
 use Rattle.laws.specs.Tests.{and-left, and-right, to-T}
-use Rattle.laws.specs.Velocities.{before-is}
-use Rattle.heights.specs.Ways.{across, up, back, speeds}
-use Rattle.velocities.specs.Around.{forth, speedAbove, speedBelow, FaceIn}
+use Rattle.laws.specs.Lines.{before-is}
+use Rattle.heights.specs.Ways.{across, up, back, speeds, forth}
+use Rattle.heights.specs.Places.{FaceIn}
+use Rattle.velocities.specs.Around.{speedAbove, speedBelow}
 
 module _ {c : Card} {i j : ℕ} where
   -- the next one, and where there is one

@@ -10,9 +10,10 @@ use Rattle.rules.specs.declared.Card.{Card}
 use Rattle.rules.specs.Grid.{Field}
 use Rattle.rules.specs.Site.{Water}
 use Rattle.rules.specs.Step.{eastFace, northFace}
-use Rattle.laws.specs.Velocities.{no-end}
-use Rattle.heights.specs.Ways.{across, up, isWall, back, speeds, transfers}
-use Rattle.velocities.specs.Around.{forth, speedAbove, speedBelow, between, FaceIn}
+use Rattle.laws.specs.Lines.{no-end}
+use Rattle.heights.specs.Ways.{across, up, isWall, back, speeds, transfers, forth}
+use Rattle.heights.specs.Places.{FaceIn}
+use Rattle.velocities.specs.Around.{speedAbove, speedBelow, between}
 use Rattle.velocities.specs.Faces.{Flowing, AtFace, innerFace}
 
 pub forth-more : (one : Bool) (n : ℕ) → n ≤ forth one n
@@ -57,12 +58,7 @@ unfolding across up isWall back forth
 inner-at {c} {g} {s} {t} {i} {j} f true p e = let line = no-end (c .columns) i e in record { flowing = f; column = omega arith; row = p .row }
 inner-at {c} {g} {s} {t} {i} {j} f false p e = let line = no-end (c .rows) j e in record { flowing = f; column = p .column; row = omega arith }
 
--- and going back from it takes nothing from 0
-pub past-wall : (c : Card) (east : Bool) (i j : ℕ) → isWall c east i j ≡ false → 0 < cond east i j
-unfolding isWall
-past-wall c true i j e = no-end (c .columns) i e .low
-past-wall c false i j e = no-end (c .rows) j e .low
-
+-- a number that is picked is above 0
 pub picked : (one : Bool) (m n : ℕ) → 0 < cond one m n → ((one ≡ true) → 0 < m) × ((one ≡ false) → 0 < n)
 picked true m n h = (λ e. h, λ e. absurd (true≢false e))
 picked false m n h = (λ e. absurd (false≢true e), λ e. h)

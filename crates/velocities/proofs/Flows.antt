@@ -17,7 +17,7 @@ use Rattle.heights.proofs.Sites.{facts, state-long}
 use Rattle.heights.specs.Known.{Sound}
 use Rattle.heights.specs.Tide.{tide}
 use Rattle.heights.specs.Ways.{across, up, speeds, transfers}
-use Rattle.velocities.specs.Around.{FaceIn, FacePlace}
+use Rattle.heights.specs.Places.{FaceIn, FacePlace}
 use Rattle.velocities.specs.Faces.{Flowing}
 use Rattle.velocities.proofs.Around.{Cell}
 

@@ -17,7 +17,8 @@ use Rattle.laws.specs.Bounded.{new-low}
 use Rattle.face.specs.Ranges.{Height, Ground, Speed, Transfer, FaceFits}
 use Rattle.heights.specs.Ways.{speeds, transfers}
 use Rattle.heights.proofs.Sites.{facts, depths, height-fits, speed-fits, crossed}
-use Rattle.velocities.specs.Around.{speedAbove, speedBelow, between, FaceIn}
+use Rattle.heights.specs.Places.{FaceIn}
+use Rattle.velocities.specs.Around.{speedAbove, speedBelow, between}
 use Rattle.velocities.specs.Faces.{Flowing, AtFace, innerFace}
 use Rattle.velocities.proofs.Around.{Cell, near-in, far-in, cell-k, cell-l, between-is}
 use Rattle.velocities.proofs.Flows.{sound-of}
@@ -55,7 +56,7 @@ module _ {c : Card} {g s t : List ℤ} (f : Flowing c g s t) where
   ground-fits i j = record { size = facts (sound-of f) .ground-at i j }
 
   crossed-fits : {east : Bool} {i j : ℕ} → FaceIn c east i j → Transfer (transfers c (readState c s) east i j)
-  crossed-fits {east} {i} {j} p = crossed (record { sound = sound-of f; limit = f .limit }) east i j (p .column) (p .row)
+  crossed-fits {east} {i} {j} p = crossed (record { sound = sound-of f; limit = f .limit }) east i j p
 
   module _ (east : Bool) {i j iL jL : ℕ} (k : Cell c i j) (l : Cell c iL jL) where
     between-fits : FaceFits (between c (readGround c g) (readState c s) east i j iL jL)

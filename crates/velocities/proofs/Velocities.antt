@@ -8,9 +8,9 @@ use lib.IntN.{ℤ, pos}
 use Rattle.rules.specs.declared.Card.{Card}
 use Rattle.rules.specs.Site.{readGround, readState}
 use Rattle.rules.specs.Step.{newVelocity, newEast, newNorth}
-use Rattle.laws.specs.Velocities.{inner-is}
+use Rattle.laws.specs.Lines.{inner-is}
 use Rattle.heights.specs.Ways.{across, up, side, isWall, back}
-use Rattle.velocities.specs.Around.{FaceIn}
+use Rattle.heights.specs.Places.{FaceIn}
 use Rattle.velocities.specs.Faces.{innerFace}
 use Rattle.velocities.specs.Velocities.{newSpeeds}
 

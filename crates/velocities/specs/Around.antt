@@ -1,22 +1,13 @@
 -- The numbers around an inner face, said once for both ways that faces point, eastward (`true`) and northward (`false`); and what stands where.
-use Prim.Native.Nat.{ℕ, suc, _<_}
-use mathlib.Core.Path.{_≡_}
+use Prim.Native.Nat.{ℕ}
 use mathlib.Core.Bool.{Bool, true, false, not, cond}
-use mathlib.Core.List.{List}
 use lib.IntN.{ℤ}
-use lib.ListN.{length}
 use Rattle.rules.specs.declared.Card.{Card}
 use Rattle.rules.specs.declared.Face.{Face}
 use Rattle.rules.specs.Grid.{Field}
-use Rattle.rules.specs.Site.{Water, stateLength}
+use Rattle.rules.specs.Site.{Water}
 use Rattle.rules.specs.Step.{after, before, newHeight}
-use Rattle.laws.specs.Facts.{Ranges}
-use Rattle.heights.specs.Ways.{across, up, speeds, transfers}
-
--- one more, or as it is: from cell K of a face on to its cell L
-unfoldable pub forth : Bool → ℕ → ℕ
-forth true n = suc n
-forth false n = n
+use Rattle.heights.specs.Ways.{forth, speeds, transfers}
 
 -- what a field has one place further on. Of the faces that point this way, (i, j) is the near one of cell (i, j), and this the far one.
 abbrev pub onward : Bool → Field → Field
@@ -55,16 +46,3 @@ between c g w east i j iL jL = record {
   uAbove = speedAbove c w east iL jL;
   uBelow = speedBelow w east iL jL;
 }
-
--- ---- What a reader of one word requires
-
--- a face: an inner one or a wall
-pub record FaceIn (c : Card) (east : Bool) (i j : ℕ) : Type 0 where
-  pub column : i < across c east
-  pub row : j < up c east
-
--- and a list in the layout of a state
-pub record FacePlace (c : Card) (l : List ℤ) (east : Bool) (i j : ℕ) : Type 0 where
-  pub card : Ranges c
-  pub long : length l ≡ stateLength c
-  pub face : FaceIn c east i j

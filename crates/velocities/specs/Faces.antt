@@ -11,7 +11,7 @@ use Rattle.rules.specs.Site.{Water, readState, check}
 use Rattle.rules.specs.Step.{limitKept, heightsFit, eastFace, northFace}
 use Rattle.laws.specs.Reading.{Holds}
 use Rattle.heights.specs.Tide.{tide}
-use Rattle.velocities.specs.Around.{forth}
+use Rattle.heights.specs.Ways.{forth}
 
 -- a site that passes the first three checks and keeps the step limit, with new heights in their range and the tide at hand
 pub record Flowing (c : Card) (g s t : List ℤ) : Type 0 where

@@ -9,7 +9,7 @@ use Rattle.rules.specs.declared.Card.{Card}
 use Rattle.rules.specs.Grid.{Field, grid}
 use Rattle.rules.specs.Site.{readGround, readState}
 use Rattle.rules.specs.Step.{newEast, newNorth}
-use Rattle.velocities.specs.Around.{FaceIn}
+use Rattle.heights.specs.Places.{FaceIn}
 use Rattle.velocities.specs.Faces.{Flowing}
 
 -- a face (i, j): an inner one or a wall

@@ -1,5 +1,7 @@
 // The eighteen numbers around an inner face, gathered from ground, state and tide.
 use super::words;
+use heights::ways;
+use heights::words::face_at;
 use rules::Card;
 use rules::Face;
 ghost use mathlib.Core.Path.{_≡_};
@@ -20,8 +22,8 @@ pub fn face(
     ensures { λ r. ⌜ r ≡ innerFace card (readGround card (now (ground .entry))) (readState card (now (state .entry))) east i j ⌝ }
 {
     let columns = card.columns as usize;
-    let iL = words::forth(east, i);
-    let jL = words::forth(!east, j);
+    let iL = ways::forth(east, i);
+    let jL = ways::forth(!east, j);
     let above = words::above(card, east, state, iL, jL);
     let below = words::below(card, east, state, iL, jL);
     Face {
@@ -31,16 +33,16 @@ pub fn face(
         newL: lists::word(tide, 0, columns, iL, jL),
         groundK: lists::word(ground, 0, columns, i, j),
         groundL: lists::word(ground, 0, columns, iL, jL),
-        own: words::near(card, east, tide, iL, jL),
+        own: face_at(card, east, tide, iL, jL),
         ahead: words::far(card, east, tide, iL, jL),
-        behind: words::near(card, east, tide, i, j),
+        behind: face_at(card, east, tide, i, j),
         aboveK: words::far(card, !east, tide, i, j),
         aboveL: words::far(card, !east, tide, iL, jL),
-        belowK: words::near(card, !east, tide, i, j),
-        belowL: words::near(card, !east, tide, iL, jL),
-        u: words::near(card, east, state, iL, jL),
+        belowK: face_at(card, !east, tide, i, j),
+        belowL: face_at(card, !east, tide, iL, jL),
+        u: face_at(card, east, state, iL, jL),
         uAhead: words::far(card, east, state, iL, jL),
-        uBehind: words::near(card, east, state, i, j),
+        uBehind: face_at(card, east, state, i, j),
         uAbove: above,
         uBelow: below,
     }

@@ -12,7 +12,7 @@ use Rattle.face.specs.Ranges.{Height}
 use Rattle.heights.specs.declared.cells.Cell.{Cell}
 use Rattle.heights.specs.Cells.{cellAt}
 use Rattle.heights.specs.Ways.{across, up, speeds, transfers}
-use Rattle.heights.proofs.Sites.{state-long, height-fits, height-within, crossed}
+use Rattle.heights.proofs.Sites.{facts, state-long, height-fits, height-within, crossed}
 use Rattle.heights.proofs.Tides.{crossing}
 use Rattle.heights.proofs.tide.new_height.Statement.{statement}
 use Rattle.heights.proofs.tide.new_height.Tie as tie
@@ -20,7 +20,7 @@ use Rattle.heights.proofs.tide.new_height.Tie as tie
 cell-at-requires : tie.Need-cell-at-requires
 cell-at-requires c κs =
     let p = c .pre in
-    record { heights = state-long (p .lists .limited .sound); faces = p .lists .long; column = p .column; row = p .row }
+    record { card = facts (p .lists .limited .sound) .card; heights = state-long (p .lists .limited .sound); faces = p .lists .long; column = p .column; row = p .row }
 
 -- the numbers of the cell: its old height, and what crosses its four faces
 module _ (c : tie.After-struct-told5) where
@@ -44,27 +44,27 @@ module _ (c : tie.After-struct-told5) where
 
   west : cell .west ≡ eastTransfer (start .args .card) w (start .args .i) (start .args .j)
   unfolding cellAt across up speeds transfers
-  west = let p = start .pre in ap (λ (x : Cell). x .west) is ∙ crossing (p .lists) true _ _ (omega (arith, p .column)) (p .row)
+  west = let p = start .pre in ap (λ (x : Cell). x .west) is ∙ crossing (p .lists) true _ _ (record { column = omega (arith, p .column); row = p .row })
 
   east : cell .east ≡ eastTransfer (start .args .card) w (suc (start .args .i)) (start .args .j)
   unfolding cellAt across up speeds transfers
-  east = let p = start .pre in ap (λ (x : Cell). x .east) is ∙ crossing (p .lists) true _ _ (omega (arith, p .column)) (p .row)
+  east = let p = start .pre in ap (λ (x : Cell). x .east) is ∙ crossing (p .lists) true _ _ (record { column = omega (arith, p .column); row = p .row })
 
   south : cell .south ≡ northTransfer (start .args .card) w (start .args .i) (start .args .j)
   unfolding cellAt across up speeds transfers
-  south = let p = start .pre in ap (λ (x : Cell). x .south) is ∙ crossing (p .lists) false _ _ (p .column) (omega (arith, p .row))
+  south = let p = start .pre in ap (λ (x : Cell). x .south) is ∙ crossing (p .lists) false _ _ (record { column = p .column; row = omega (arith, p .row) })
 
   north : cell .north ≡ northTransfer (start .args .card) w (start .args .i) (suc (start .args .j))
   unfolding cellAt across up speeds transfers
-  north = let p = start .pre in ap (λ (x : Cell). x .north) is ∙ crossing (p .lists) false _ _ (p .column) (omega (arith, p .row))
+  north = let p = start .pre in ap (λ (x : Cell). x .north) is ∙ crossing (p .lists) false _ _ (record { column = p .column; row = omega (arith, p .row) })
 
   over-east : (i : ℕ) → i ≤ suc (start .args .i) → Within 50000000 (eastTransfer (start .args .card) w i (start .args .j))
   unfolding across up transfers
-  over-east i h = let p = start .pre in crossed (p .lists .limited) true i _ (omega (arith, p .column)) (p .row)
+  over-east i h = let p = start .pre in crossed (p .lists .limited) true i _ (record { column = omega (arith, p .column); row = p .row })
 
   over-north : (j : ℕ) → j ≤ suc (start .args .j) → Within 50000000 (northTransfer (start .args .card) w (start .args .i) j)
   unfolding across up transfers
-  over-north j h = let p = start .pre in crossed (p .lists .limited) false _ j (p .column) (omega (arith, p .row))
+  over-north j h = let p = start .pre in crossed (p .lists .limited) false _ j (record { column = p .column; row = omega (arith, p .row) })
 
 new-height-requires : tie.Need-new-height-requires
 new-height-requires c κs =

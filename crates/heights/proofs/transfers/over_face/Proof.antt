@@ -20,11 +20,11 @@ is-wall-requires : tie.Need-is-wall-requires
 is-wall-requires c κs = search needs
 
 returns : tie.Need-returns
-returns c = sym (over-wall _ _ _ _ _ (sym (c .before .is-wall .ensures) ∙ c .if1 .taken))
+returns c = sym (over-wall _ _ _ _ _ (c .before .before .pre .face) (sym (c .before .is-wall .ensures) ∙ c .if1 .taken))
 
 -- the two cells of an inner face
 cells : (c : tie.Else1) → let a = c .before .before .args in Beside (a .card) (a .east) (a .i) (a .j)
-cells c = let p = c .before .before .pre in beside _ _ _ _ (p .column) (p .row) (sym (c .before .is-wall .ensures) ∙ c .if1 .left)
+cells c = let p = c .before .before .pre in beside _ _ _ _ (p .face) (sym (c .before .is-wall .ensures) ∙ c .if1 .left)
 
 back-requires : tie.Need-back-requires
 back-requires c κs = cells c .back-east
@@ -46,7 +46,7 @@ height-at-requires-2 c κs =
 face-at-requires : tie.Need-face-at-requires
 face-at-requires c κs =
     let p = c .before .before .before .before .before .before .pre in
-    face-place (p .limited .sound) (p .column) (p .row)
+    face-place (p .limited .sound) (p .face)
 
 side-requires : tie.Need-side-requires
 side-requires c κs = search needs
@@ -83,7 +83,7 @@ module _ (c : tie.After-side) where
       let readU = c .before .face-at in
       ap (λ (d : ℕ). transfer (start .args .card .dt) d k l u) (c .side .ensures)
       ∙ rw (word-is (readK .result) (readK .ok) behind, word-is (readL .result) (readL .ok) (readL .ensures), word-is (readU .result) (readU .ok) (readU .ensures))
-      (sym (over-inner _ _ _ _ _ (start .pre .column) (start .pre .row) (sym (between .before .is-wall .ensures) ∙ between .if1 .left)))
+      (sym (over-inner _ _ _ _ _ (start .pre .face) (sym (between .before .is-wall .ensures) ∙ between .if1 .left)))
 
 crossing-requires : tie.Need-crossing-requires
 crossing-requires c κs =
@@ -100,7 +100,7 @@ crossing-requires c κs =
         time = time (p .limited .sound);
         side = subst Side (sym (c .side .ensures)) (side-fits (p .limited .sound) _);
       };
-      size = subst (Within 50000000) (sym (over c)) (crossed (p .limited) _ _ _ (p .column) (p .row));
+      size = subst (Within 50000000) (sym (over c)) (crossed (p .limited) _ _ _ (p .face));
     }
 
 returns-2 : tie.Need-returns-2

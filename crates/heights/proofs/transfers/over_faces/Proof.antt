@@ -42,7 +42,7 @@ loop2-holds c = begin-row (c .before .loop .inv)
 
 over-face-requires : tie.Need-over-face-requires Inv-loop2 μ-loop2 Inv-loop μ-loop
 over-face-requires c κs =
-    record { limited = c .before .before .before .before .before .before .before .pre .limited; column = omega arith; row = omega arith }
+    record { limited = c .before .before .before .before .before .before .before .pre .limited; face = record { column = omega arith; row = omega arith } }
 
 put-requires : tie.Need-put-requires Inv-loop2 μ-loop2 Inv-loop μ-loop
 put-requires c κs =

@@ -16,7 +16,7 @@ across-requires c κs = search needs
 word-requires : tie.Need-word-requires
 word-requires c κs =
     let p = c .before .before .pre in
-    rw (c .before .first .ensures, c .across .ensures) (face-in _ _ (p .long) (p .column) (p .row))
+    rw (c .before .first .ensures, c .across .ensures) (face-in _ _ (p .long) (p .face))
 
 returns : tie.Need-returns
 returns c = word-is (c .word .result) (c .word .ok) (c .word .ensures ∙ rw (c .before .before .first .ensures, c .before .across .ensures) (face-read _ _ _ _ _))

@@ -14,7 +14,7 @@ use Rattle.velocities.proofs.faces.face.Tie as tie
 abbrev gathered : tie.After-word6 → tie.After-forth2
 gathered c = c .before .before .before .before .before .before .before .before
 
-abbrev tided : tie.After-near4 → tie.After-forth2
+abbrev tided : tie.After-face-at4 → tie.After-forth2
 tided c = gathered (c .before .before .before .before .before .before .before)
 
 abbrev start : tie.After-forth2 → tie.Start
@@ -64,14 +64,14 @@ word-requires-5 c κs = let d : tie.After-forth2 = c .before .before .before .be
 word-requires-6 : tie.Need-word-requires-6
 word-requires-6 c κs = let d : tie.After-forth2 = c .before .before .before .before .before .before .before in ground-in (start d .pre .flowing) (l d)
 
-near-requires : tie.Need-near-requires
-near-requires c κs = let d : tie.After-forth2 = gathered c in in-tide (start d .pre .flowing) (near-in _ (l d))
+face-at-requires : tie.Need-face-at-requires
+face-at-requires c κs = let d : tie.After-forth2 = gathered c in in-tide (start d .pre .flowing) (near-in _ (l d))
 
 far-requires : tie.Need-far-requires
 far-requires c κs = let d : tie.After-forth2 = gathered (c .before) in in-tide (start d .pre .flowing) (far-in _ (l d))
 
-near-requires-2 : tie.Need-near-requires-2
-near-requires-2 c κs = let d : tie.After-forth2 = gathered (c .before .before) in in-tide (start d .pre .flowing) (near-in _ (cell-k (start d .pre)))
+face-at-requires-2 : tie.Need-face-at-requires-2
+face-at-requires-2 c κs = let d : tie.After-forth2 = gathered (c .before .before) in in-tide (start d .pre .flowing) (near-in _ (cell-k (start d .pre)))
 
 far-requires-2 : tie.Need-far-requires-2
 far-requires-2 c κs = let d : tie.After-forth2 = gathered (c .before .before .before) in in-tide (start d .pre .flowing) (far-in _ (cell-k (start d .pre)))
@@ -79,33 +79,33 @@ far-requires-2 c κs = let d : tie.After-forth2 = gathered (c .before .before .b
 far-requires-3 : tie.Need-far-requires-3
 far-requires-3 c κs = let d : tie.After-forth2 = gathered (c .before .before .before .before) in in-tide (start d .pre .flowing) (far-in _ (l d))
 
-near-requires-3 : tie.Need-near-requires-3
-near-requires-3 c κs = let d : tie.After-forth2 = gathered (c .before .before .before .before .before) in in-tide (start d .pre .flowing) (near-in _ (cell-k (start d .pre)))
+face-at-requires-3 : tie.Need-face-at-requires-3
+face-at-requires-3 c κs = let d : tie.After-forth2 = gathered (c .before .before .before .before .before) in in-tide (start d .pre .flowing) (near-in _ (cell-k (start d .pre)))
 
-near-requires-4 : tie.Need-near-requires-4
-near-requires-4 c κs = let d : tie.After-forth2 = gathered (c .before .before .before .before .before .before) in in-tide (start d .pre .flowing) (near-in _ (l d))
+face-at-requires-4 : tie.Need-face-at-requires-4
+face-at-requires-4 c κs = let d : tie.After-forth2 = gathered (c .before .before .before .before .before .before) in in-tide (start d .pre .flowing) (near-in _ (l d))
 
-near-requires-5 : tie.Need-near-requires-5
-near-requires-5 c κs = let d : tie.After-forth2 = tided c in in-state (start d .pre .flowing) (near-in _ (l d))
+face-at-requires-5 : tie.Need-face-at-requires-5
+face-at-requires-5 c κs = let d : tie.After-forth2 = tided c in in-state (start d .pre .flowing) (near-in _ (l d))
 
 far-requires-4 : tie.Need-far-requires-4
 far-requires-4 c κs = let d : tie.After-forth2 = tided (c .before) in in-state (start d .pre .flowing) (far-in _ (l d))
 
-near-requires-6 : tie.Need-near-requires-6
-near-requires-6 c κs = let d : tie.After-forth2 = tided (c .before .before) in in-state (start d .pre .flowing) (near-in _ (cell-k (start d .pre)))
+face-at-requires-6 : tie.Need-face-at-requires-6
+face-at-requires-6 c κs = let d : tie.After-forth2 = tided (c .before .before) in in-state (start d .pre .flowing) (near-in _ (cell-k (start d .pre)))
 
 returns : tie.Need-returns
 unfolding between
 returns c =
     let at-uAhead : tie.After-far4 = c .before in
-    let at-u : tie.After-near5 = at-uAhead .before in
-    let at-belowL : tie.After-near4 = at-u .before in
-    let at-belowK : tie.After-near3 = at-belowL .before in
+    let at-u : tie.After-face-at5 = at-uAhead .before in
+    let at-belowL : tie.After-face-at4 = at-u .before in
+    let at-belowK : tie.After-face-at3 = at-belowL .before in
     let at-aboveL : tie.After-far3 = at-belowK .before in
     let at-aboveK : tie.After-far2 = at-aboveL .before in
-    let at-behind : tie.After-near2 = at-aboveK .before in
+    let at-behind : tie.After-face-at2 = at-aboveK .before in
     let at-ahead : tie.After-far = at-behind .before in
-    let at-own : tie.After-near = at-ahead .before in
+    let at-own : tie.After-face-at = at-ahead .before in
     let at-groundL : tie.After-word6 = at-own .before in
     let at-groundK : tie.After-word5 = at-groundL .before in
     let at-newL : tie.After-word4 = at-groundK .before in
@@ -126,16 +126,16 @@ returns c =
       newL = word-is (at-newL .word4 .result) (at-newL .word4 .ok) (at-newL .word4 .ensures ∙ new-is f (l d)) x;
       groundK = word-is (at-groundK .word5 .result) (at-groundK .word5 .ok) (at-groundK .word5 .ensures ∙ ground-is f k) x;
       groundL = word-is (at-groundL .word6 .result) (at-groundL .word6 .ok) (at-groundL .word6 .ensures ∙ ground-is f (l d)) x;
-      own = word-is (at-own .near .result) (at-own .near .ok) (at-own .near .ensures ∙ crossed-is f _ (near-in _ (l d))) x;
+      own = word-is (at-own .face-at .result) (at-own .face-at .ok) (at-own .face-at .ensures ∙ crossed-is f _ (near-in _ (l d))) x;
       ahead = word-is (at-ahead .far .result) (at-ahead .far .ok) (at-ahead .far .ensures ∙ crossed-is f _ (far-in _ (l d))) x;
-      behind = word-is (at-behind .near2 .result) (at-behind .near2 .ok) (at-behind .near2 .ensures ∙ crossed-is f _ (near-in _ k)) x;
+      behind = word-is (at-behind .face-at2 .result) (at-behind .face-at2 .ok) (at-behind .face-at2 .ensures ∙ crossed-is f _ (near-in _ k)) x;
       aboveK = word-is (at-aboveK .far2 .result) (at-aboveK .far2 .ok) (at-aboveK .far2 .ensures ∙ crossed-is f _ (far-in _ k)) x;
       aboveL = word-is (at-aboveL .far3 .result) (at-aboveL .far3 .ok) (at-aboveL .far3 .ensures ∙ crossed-is f _ (far-in _ (l d))) x;
-      belowK = word-is (at-belowK .near3 .result) (at-belowK .near3 .ok) (at-belowK .near3 .ensures ∙ crossed-is f _ (near-in _ k)) x;
-      belowL = word-is (at-belowL .near4 .result) (at-belowL .near4 .ok) (at-belowL .near4 .ensures ∙ crossed-is f _ (near-in _ (l d))) x;
-      u = word-is (at-u .near5 .result) (at-u .near5 .ok) (at-u .near5 .ensures) x;
+      belowK = word-is (at-belowK .face-at3 .result) (at-belowK .face-at3 .ok) (at-belowK .face-at3 .ensures ∙ crossed-is f _ (near-in _ k)) x;
+      belowL = word-is (at-belowL .face-at4 .result) (at-belowL .face-at4 .ok) (at-belowL .face-at4 .ensures ∙ crossed-is f _ (near-in _ (l d))) x;
+      u = word-is (at-u .face-at5 .result) (at-u .face-at5 .ok) (at-u .face-at5 .ensures) x;
       uAhead = word-is (at-uAhead .far4 .result) (at-uAhead .far4 .ok) (at-uAhead .far4 .ensures) x;
-      uBehind = word-is (c .near6 .result) (c .near6 .ok) (c .near6 .ensures) x;
+      uBehind = word-is (c .face-at6 .result) (c .face-at6 .ok) (c .face-at6 .ensures) x;
       uAbove = word-is (at-uAbove .above .result) (at-uAbove .above .ok) (at-uAbove .above .ensures) x;
       uBelow = word-is (at-uBelow .below .result) (at-uBelow .below .ok) (at-uBelow .below .ensures) x;
     })
@@ -155,14 +155,14 @@ face-spec =
     word-requires-4
     word-requires-5
     word-requires-6
-    near-requires
+    face-at-requires
     far-requires
-    near-requires-2
+    face-at-requires-2
     far-requires-2
     far-requires-3
-    near-requires-3
-    near-requires-4
-    near-requires-5
+    face-at-requires-3
+    face-at-requires-4
+    face-at-requires-5
     far-requires-4
-    near-requires-6
+    face-at-requires-6
     returns)

@@ -2,13 +2,13 @@
 use mathlib.Core.Path.{_≡_, _∙_, sym, subst}
 use mathlib.Core.Bool.{false}
 use borrow.Author.Needs.{needs}
-use borrow.Author.Tests.{not-true}
 use mir.Facts.{toZ-ofZ}
 use Rattle.face.specs.Ranges.{FaceFits}
 use Rattle.heights.specs.Ways.{isWall}
+use Rattle.heights.proofs.Pointing.{beside}
 use Rattle.heights.proofs.Sites.{time, side-fits}
 use Rattle.velocities.specs.Faces.{AtFace}
-use Rattle.velocities.proofs.Around.{inner-at, past-wall, picked}
+use Rattle.velocities.proofs.Around.{inner-at}
 use Rattle.velocities.proofs.Flows.{sound-of}
 use Rattle.velocities.proofs.Ranges.{face-fits}
 use Rattle.velocities.proofs.Velocities.{new-is}
@@ -31,12 +31,10 @@ returns : tie.Need-returns
 returns c = sym (new-is _ _ _ _ (c .before .before .pre .face) ∙ rw (sym (c .before .is-wall .ensures) ∙ c .if1 .taken))
 
 back-requires : tie.Need-back-requires
-back-requires c κs = picked _ _ _ (past-wall _ _ _ _ (no-wall c)) .0
+back-requires c κs = beside _ _ _ _ (c .before .before .pre .face) (no-wall c) .back-east
 
 back-requires-2 : tie.Need-back-requires-2
-back-requires-2 c κs e =
-    let a = c .before .before .before .args in
-    picked (a .east) (a .i) (a .j) (past-wall _ _ _ _ (no-wall (c .before))) .1 (not-true (a .east) e)
+back-requires-2 c κs = beside _ _ _ _ (c .before .before .before .pre .face) (no-wall (c .before)) .back-north
 
 face-requires : tie.Need-face-requires
 face-requires c κs = inner c

@@ -4,8 +4,8 @@ use mathlib.Core.Bool.{not, _&&_}
 use borrow.Author.Needs.{needs}
 use lib.Dec.{ltb}
 use Rattle.heights.specs.Ways as Ways
+use Rattle.heights.specs.Ways.{forth}
 use Rattle.laws.specs.Signed.{word-is}
-use Rattle.velocities.specs.Around.{forth}
 use Rattle.velocities.proofs.Abreast.{above-is, above-in}
 use Rattle.velocities.proofs.Places.{in-range}
 use Rattle.velocities.proofs.words.above.Statement.{statement}
@@ -29,15 +29,15 @@ across-requires c κs = search needs
 up-requires : tie.Need-up-requires
 up-requires c κs = search needs
 
-near-requires : tie.Need-near-requires
-near-requires c κs =
+face-at-requires : tie.Need-face-at-requires
+face-at-requires c κs =
     let up = c .before in
     let p = up .before .before .before .before .pre in
     record { card = p .card; long = p .long; face = above-in _ (up .before .across .ensures) (up .up .ensures) (c .if1 .taken) }
 
 returns : tie.Need-returns
 returns c =
-    let n = c .near in
+    let n = c .face-at in
     let up = c .before .before in
     let face = up .before .before .before .before .pre .face in
     word-is (n .result) (n .ok)
@@ -50,4 +50,4 @@ returns-2 c = sym (above-is _ _ (c .before .before .before .before .before .pre 
 pub above-spec : {M : Type 1} → statement M
 above-spec =
     tie.close
-    (tie.spec forth-requires forth-requires-2 across-requires up-requires near-requires returns returns-2)
+    (tie.spec forth-requires forth-requires-2 across-requires up-requires face-at-requires returns returns-2)

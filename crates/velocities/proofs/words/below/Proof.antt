@@ -23,14 +23,14 @@ back-requires c κs e = let a = c .before .before .args in picked (a .east) (a .
 back-requires-2 : tie.Need-back-requires-2
 back-requires-2 c κs = picked _ _ _ (there (c .before)) .0
 
-near-requires : tie.Need-near-requires
-near-requires c κs =
+face-at-requires : tie.Need-face-at-requires
+face-at-requires c κs =
     let p = c .before .before .before .before .pre in
     record { card = p .card; long = p .long; face = rw (c .before .back .ensures, c .back2 .ensures) (below-in _ (p .face)) }
 
 returns : tie.Need-returns
 returns c =
-    let n = c .near in
+    let n = c .face-at in
     let then = c .before .before .before in
     word-is (n .result) (n .ok)
     (n .ensures ∙ rw (c .before .before .back .ensures, c .before .back2 .ensures) (sym (below-is _ _ _ _ ∙ rw (lt-ltb _ _ (there then)))))
@@ -41,4 +41,4 @@ returns-2 c = sym (below-is _ _ _ _ ∙ rw (← c .before .pick .ensures, le-ltb
 pub below-spec : {M : Type 1} → statement M
 below-spec =
     tie.close
-    (tie.spec pick-requires back-requires back-requires-2 near-requires returns returns-2)
+    (tie.spec pick-requires back-requires back-requires-2 face-at-requires returns returns-2)

@@ -15,13 +15,13 @@ forth-requires c κs = omega (arith, in-range _ (c .pre) .0, forth-more (c .args
 forth-requires-2 : tie.Need-forth-requires-2
 forth-requires-2 c κs = let start = c .before in omega (arith, in-range _ (start .pre) .1, forth-more (not (start .args .east)) (start .args .j))
 
-near-requires : tie.Need-near-requires
-near-requires c κs = search needs
+face-at-requires : tie.Need-face-at-requires
+face-at-requires c κs = search needs
 
 returns : tie.Need-returns
 returns c =
-    let n = c .near in
+    let n = c .face-at in
     word-is (n .result) (n .ok) (n .ensures ∙ rw (c .before .before .forth .ensures, c .before .forth2 .ensures))
 
 pub far-spec : {M : Type 1} → statement M
-far-spec = tie.close (tie.spec forth-requires forth-requires-2 near-requires returns)
+far-spec = tie.close (tie.spec forth-requires forth-requires-2 face-at-requires returns)

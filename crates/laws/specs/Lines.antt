@@ -1,5 +1,5 @@
--- Velocities, and whatever else is said of the faces in a line from wall to wall, by the tests that the code makes at face k: what is 0 on both walls and
--- follows a rule between them, and what stands at the face before.
+-- The faces in a line from wall to wall, by the tests that the code makes at face k: what is 0 on both walls and follows a rule between them, as
+-- transfers and velocities do, and what stands at the face before.
 use Prim.Native.Nat.{ℕ, zero, suc, _-_, _≤_, _<_}
 use mathlib.Core.Path.{_≡_, refl, _∙_}
 use mathlib.Core.Bool.{Bool, true, false, cond, _||_, true≢false}

@@ -1,9 +1,8 @@
--- `velocities::words::forth` meets its contract.
 use native.Mathlib.Numerals.{add-one}
 use borrow.Author.Needs.{needs}
-use Rattle.velocities.specs.Around.{forth}
-use Rattle.velocities.proofs.words.forth.Statement.{statement}
-use Rattle.velocities.proofs.words.forth.Tie as tie
+use Rattle.heights.specs.Ways.{forth}
+use Rattle.heights.proofs.ways.forth.Statement.{statement}
+use Rattle.heights.proofs.ways.forth.Tie as tie
 
 add-result : tie.Need-add-result
 add-result c = search needs
