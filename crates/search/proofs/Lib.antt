@@ -1,4 +1,3 @@
 pub mod Answers
-pub mod Cells
 pub mod Numbers
 pub mod Rows

@@ -10,22 +10,7 @@ use Rattle.rules.specs.declared.Card.{Card}
 use Rattle.rules.specs.declared.Window.{Window}
 use Rattle.rules.specs.declared.Found.{Found}
 use Rattle.rules.specs.Site.{cardFits, cells}
-use Rattle.rules.specs.Search.{cellAlong, alongFits, allAlong, listOf}
-
--- where the height of a chamber's cell stands in the state
-abbrev pub cellPlace : Card → (x y : ℤ) → ℕ
-cellPlace c x y = cellAlong (c .dy) (c .rows) y * c .columns + cellAlong (c .dx) (c .columns) x
-
--- one chamber on the site
-pub record OnSite (c : Card) (x y : ℤ) : Type 0 where
-  pub card : cardFits c ≡ true
-  pub x-fits : alongFits (c .columns * c .dx) x ≡ true
-  pub y-fits : alongFits (c .rows * c .dy) y ≡ true
-
--- and a state that holds its cell's height
-pub record Wet (c : Card) (s : List ℤ) (x y : ℤ) : Type 0 where
-  pub on : OnSite c x y
-  pub heights : cells c ≤ length s
+use Rattle.rules.specs.Search.{allAlong, listOf}
 
 -- the whole register
 pub record Checked (c : Card) (s xs ys : List ℤ) : Type 0 where

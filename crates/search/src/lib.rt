@@ -1,8 +1,6 @@
 // Finding chambers: the search over two lists of numbers; `row` has the parts of the search over a row of chamber records.
-mod chamber;
 mod register;
 pub mod row;
-mod window;
 
 ghost use mathlib.Core.Path.{_≡_};
 ghost use lib.ListN.{length};

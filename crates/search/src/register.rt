@@ -10,8 +10,8 @@ ghost use Rattle.rules.specs.Site.{cardFits};
 ghost use Rattle.rules.specs.Search.{askedFits, listedAt, listOf};
 ghost use Rattle.laws.specs.Between.{between};
 ghost use Rattle.search.specs.Checked.{Checked, Listed};
-use super::chamber::listed;
-use super::window::edges_finite;
+use chamber::listed;
+use chamber::window::edges_finite;
 use rules::Card;
 use rules::Window;
 

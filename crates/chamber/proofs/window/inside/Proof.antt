@@ -2,8 +2,8 @@
 use borrow.Author.Needs.{needs}
 use mir.Facts.{toZ-ofZ}
 use Rattle.rules.specs.Search.{inside}
-use Rattle.search.proofs.window.inside.Statement.{statement}
-use Rattle.search.proofs.window.inside.Tie as tie
+use Rattle.chamber.proofs.window.inside.Statement.{statement}
+use Rattle.chamber.proofs.window.inside.Tie as tie
 
 int-to-float-x : tie.Need-int-to-float-x
 int-to-float-x c = search needs

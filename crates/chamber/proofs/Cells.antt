@@ -9,7 +9,7 @@ use Rattle.rules.specs.declared.Card.{Card}
 use Rattle.rules.specs.Site.{cardFits}
 use Rattle.laws.specs.Facts.{card-facts}
 use Rattle.laws.specs.Along.{cell-below}
-use Rattle.search.specs.Checked.{cellPlace}
+use Rattle.chamber.specs.OnSite.{cellPlace}
 
 pub place-below : (c : Card) → cardFits c ≡ true → (x y : ℤ) → cellPlace c x y < c .rows * c .columns
 place-below c e x y =

@@ -11,10 +11,10 @@ use Rattle.rules.specs.Site.{readState}
 use Rattle.rules.specs.Search.{inside, listed}
 use Rattle.laws.specs.Facts.{card-facts}
 use Rattle.laws.specs.Along.{along-float, reach-high}
-use Rattle.search.specs.Checked.{cellPlace}
-use Rattle.search.proofs.Cells.{place-below}
-use Rattle.search.proofs.chamber.listed.Statement.{statement}
-use Rattle.search.proofs.chamber.listed.Tie as tie
+use Rattle.chamber.specs.OnSite.{cellPlace}
+use Rattle.chamber.proofs.Cells.{place-below}
+use Rattle.chamber.proofs.listed.Statement.{statement}
+use Rattle.chamber.proofs.listed.Tie as tie
 
 inside-requires : tie.Need-inside-requires
 inside-requires c κs =

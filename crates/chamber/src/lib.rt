@@ -1,11 +1,12 @@
-// One chamber: its cell, and whether it is listed.
+// One chamber: whether the window holds it, its cell, and whether it is listed.
+pub mod window;
+
 ghost use mathlib.Core.Path.{_≡_};
 ghost use Prim.Native.Nat.{_<_};
 ghost use lib.IntN.{pos};
 ghost use lib.Signed.{leZ};
 ghost use Rattle.rules.specs.Search.{cellAlong, listed as Search·listed};
-ghost use Rattle.search.specs.Checked.{OnSite, Wet, cellPlace};
-use super::window::inside;
+ghost use Rattle.chamber.specs.OnSite.{OnSite, Wet, cellPlace};
 use rules::Card;
 use rules::Window;
 
@@ -42,7 +43,7 @@ pub fn listed(card: Card, state: &[i32], window: Window, depth: i32, x: i64, y: 
     requires { ⌜ Wet card (now state) x y ⌝ }
     ensures { λ r. ⌜ r ≡ Search·listed card (now (state .entry)) window depth x y ⌝ }
 {
-    if inside(window, x, y) {
+    if window::inside(window, x, y) {
         let at = cell_place(card, x, y);
         return deep_enough(state[at], depth);
     }

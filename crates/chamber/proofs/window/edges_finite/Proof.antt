@@ -1,8 +1,8 @@
 -- `edges_finite`: four tests, joined as the definition joins them.
 use borrow.Author.Needs.{needs}
 use Rattle.rules.specs.Search.{edgesFinite}
-use Rattle.search.proofs.window.edges_finite.Statement.{statement}
-use Rattle.search.proofs.window.edges_finite.Tie as tie
+use Rattle.chamber.proofs.window.edges_finite.Statement.{statement}
+use Rattle.chamber.proofs.window.edges_finite.Tie as tie
 
 is-finite-requires : tie.Need-is-finite-requires
 is-finite-requires c κs = search needs

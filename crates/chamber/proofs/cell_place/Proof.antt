@@ -6,10 +6,10 @@ use Prim.Native.Nat.{_<_, _*_, _+_}
 use mir.Facts.{toZ-ofZ}
 use Rattle.laws.specs.Facts.{card-facts}
 use Rattle.laws.specs.Along.{along-low, along-high, reach-high}
-use Rattle.search.specs.Checked.{cellPlace}
-use Rattle.search.proofs.Cells.{place-below}
-use Rattle.search.proofs.chamber.cell_place.Statement.{statement}
-use Rattle.search.proofs.chamber.cell_place.Tie as tie
+use Rattle.chamber.specs.OnSite.{cellPlace}
+use Rattle.chamber.proofs.Cells.{place-below}
+use Rattle.chamber.proofs.cell_place.Statement.{statement}
+use Rattle.chamber.proofs.cell_place.Tie as tie
 
 cast-cell-along : tie.Need-cast-cell-along
 cast-cell-along c =

@@ -3,8 +3,8 @@ use mathlib.Core.Path.{_≡_, refl}
 use mathlib.Core.Bool.{true, false, _&&_}
 use lib.Ieee.{Float, nan, inf, fin, lt, ofBits, nanBits}
 use Rattle.rules.specs.Search.{isFinite}
-use Rattle.search.proofs.window.is_finite.Statement.{statement}
-use Rattle.search.proofs.window.is_finite.Tie as tie
+use Rattle.chamber.proofs.window.is_finite.Statement.{statement}
+use Rattle.chamber.proofs.window.is_finite.Tie as tie
 
 between : (x : Float) → (lt (inf true) x && lt x (inf false)) ≡ isFinite x
 unfolding lt
