@@ -119,16 +119,6 @@ fn look(sheet: &[u8], n: usize, m: usize, draft: &mut [i32]) -> u32
     0
 }
 
-// Copies a list over one as long.
-fn copy(from: &[i32], to: &mut [i32])
-    requires { ⌜ length (now to) ≡ length (now from) ⌝ }
-    ensures { λ _. ⌜ now (to .exit) ≡ now (from .entry) ⌝ }
-{
-    for k in 0..from.len() {
-        to[k] = from[k];
-    }
-}
-
 fn no_card() -> Card
     ensures { λ r. ⌜ r ≡ noCard ⌝ }
 {
@@ -155,8 +145,8 @@ fn read_over(sheet: &[u8], ground: &mut [i32], state: &mut [i32], draft: &mut [i
         return Heard { number, card };
     }
     let end = n + m;
-    copy(&draft[..n], ground);
-    copy(&draft[n..end], state);
+    lists::copy(ground, &draft[..n]);
+    lists::copy(state, &draft[n..end]);
     let card = card_in(sheet);
     Heard { number: 0, card }
 }
