@@ -21,9 +21,8 @@ room : (e : tie.Else1)
     → length (e .before .before .before .before .before .args .ground .now) + length (e .before .before .before .before .before .args .state .now) ≤ length (e .before .before .look .last .1 .1 .1 .0)
 room e =
     let a = e .before .before .before .before .before in
-    let f = read-few (a .args .sheet .now) (length (a .args .ground .now)) (length (a .args .state .now)) (zero e) in
+    let f = a .pre .room (read-few (a .args .sheet .now) (length (a .args .ground .now)) (length (a .args .state .now)) (zero e)) in
     let k = e .before .before .look .kept .1 .1 .1 .0 in
-    let h = a .pre in
     omega arith
 
 front : (e : tie.Else1) → length (e .before .before .before .before .before .args .ground .now) ≡ length (take (length (e .before .before .before .before .before .args .ground .now)) (e .before .before .look .last .1 .1 .1 .0))
