@@ -7,7 +7,7 @@ use native.Mathlib.Numerals.{add-one}
 use native.Mathlib.Omega.{arith}
 use lib.IntN.{ℤ, pos}
 use lib.ListN.{length, take, drop, getD, set}
-use lib.Seq.{getD-drop, drop-cons, drop-drop, drop-length, set-at, take-suc, take-suc-set, take-all, length-take-le}
+use lib.Seq.{getD-drop, drop-cons, drop-drop, drop-length, set-at, take-all, length-take-le}
 use Rattle.rules.specs.Sheet.{bytesOf, numberIn, bitsOf, valueOf, wordsIn, wordsBytes}
 use Rattle.laws.specs.Laid.{laid, laid-none, laid-last, laid-laid}
 use Rattle.laws.specs.Bytes.{length-bytes, number-more}
@@ -89,12 +89,3 @@ words-turn zs old out new at i b h k e p q =
 
 pub words-end : (zs : List ℤ) (old out : List ℕ) (at i : ℕ) → length zs ≤ i → out ≡ laid old at (wordsBytes (take i zs)) → out ≡ laid old at (wordsBytes zs)
 words-end zs old out at i h e = e ∙ ap (λ (l : List ℤ). laid old at (wordsBytes l)) (take-all i zs h)
-
--- ---- copy: the first k words are copied
-
-pub copy-turn : (from to : List ℤ) (k : ℕ) (w : ℤ) → k < length from → length to ≡ length from → take k to ≡ take k from → w ≡ getD from k (pos 0) → take (k + 1) (set to k w) ≡ take (k + 1) from
-copy-turn from to k w h e p q =
-    rw add-one (take-suc-set to k w (omega arith) ∙ ap₂ (λ (x : List ℤ) (y : ℤ). x ++ (y ∷ [])) p q ∙ sym (take-suc from k (pos 0) h))
-
-pub copy-end : (from to : List ℤ) (k : ℕ) → length from ≤ k → length to ≡ length from → take k to ≡ take k from → to ≡ from
-copy-end from to k h e p = sym (take-all k to (omega arith)) ∙ p ∙ take-all k from h

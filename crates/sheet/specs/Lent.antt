@@ -29,3 +29,7 @@ pub record Joined (c : Card) (words : List ℤ) (n : ℕ) : Type 0 where
 pub record Ready (l : List ℕ) (n : ℕ) (words : List ℤ) : Type 0 where
   pub within : n ≤ length words
   pub front : frontNumber l n (length words - n) ≡ 0
+
+-- room in a draft for n words, if a sheet can have so many: that of 128 by 128 cells has 65,792
+pub record Room (n : ℕ) (draft : List ℤ) : Type 0 where
+  pub room : n ≤ 65792 → n ≤ length draft

@@ -7,7 +7,7 @@ ghost use lib.ListN.{length, take, drop};
 ghost use Rattle.rules.specs.Site.{cells, stateLength, cardFits, valuesFit, readGround, readState};
 ghost use Rattle.rules.specs.Sheet.{cardIn, groundIn, stateIn, headFits, sheetSize, readNumber, noCard};
 ghost use Rattle.rules.specs.Contracts.{ReadContract};
-ghost use Rattle.sheet.specs.Lent.{Joined, Ready};
+ghost use Rattle.sheet.specs.Lent.{Joined, Ready, Room};
 ghost use Rattle.sheet.specs.Front.{frontNumber, sheetValuesFit};
 use crate::numbers;
 use rules::Card;
@@ -56,11 +56,18 @@ pub fn sheet_size(card: Card) -> usize
     19 + 16 * (rows * columns) + 4 * columns + 4 * rows
 }
 
-// Room for the words of the largest sheet.
-fn blank() -> [i32; 65792]
+// A draft for the words of the largest sheet, of 128 by 128 cells.
+fn longest() -> [i32; 65792]
     ensures { λ r. ⌜ length r ≡ 65792 ⌝ }
 {
     [0; 65792]
+}
+
+// A draft for the words of a sheet of 32 by 32 cells: on a small site it would take longer to clear the longest draft than to read.
+fn short() -> [i32; 4160]
+    ensures { λ r. ⌜ length r ≡ 4160 ⌝ }
+{
+    [0; 4160]
 }
 
 // The reader's number before it looks at the values: 9, 1 or 2, and 0 where the values decide.
@@ -104,7 +111,7 @@ fn read_words(sheet: &[u8], n: usize, words: &mut [i32]) -> bool
 
 // The reader's number for lists of n and m words. Where it is 0, the draft begins with the sheet's ground and state.
 fn look(sheet: &[u8], n: usize, m: usize, draft: &mut [i32]) -> u32
-    requires { ⌜ length (now draft) ≡ 65792 ⌝ }
+    requires { ⌜ Room (n + m) (now draft) ⌝ }
     ensures number { λ r. ⌜ r ≡ readNumber (now (sheet .entry)) n m ⌝ }
     ensures words { λ r. ⌜ (r ≡ 0 → take (n + m) (now (draft .exit)) ≡ groundIn (now (sheet .entry)) ++ stateIn (now (sheet .entry))) ⌝ }
 {
@@ -117,16 +124,6 @@ fn look(sheet: &[u8], n: usize, m: usize, draft: &mut [i32]) -> u32
         return 3;
     }
     0
-}
-
-// Copies a list over one as long.
-fn copy(from: &[i32], to: &mut [i32])
-    requires { ⌜ length (now to) ≡ length (now from) ⌝ }
-    ensures { λ _. ⌜ now (to .exit) ≡ now (from .entry) ⌝ }
-{
-    for k in 0..from.len() {
-        to[k] = from[k];
-    }
 }
 
 fn no_card() -> Card
@@ -144,7 +141,7 @@ fn no_card() -> Card
 
 // The reader over a draft.
 fn read_over(sheet: &[u8], ground: &mut [i32], state: &mut [i32], draft: &mut [i32]) -> Heard
-    requires { ⌜ length (now draft) ≡ 65792 ⌝ }
+    requires { ⌜ Room (length (now ground) + length (now state)) (now draft) ⌝ }
     ensures { λ r. ⌜ ReadContract (now (sheet .entry)) (now (ground .entry)) (now (state .entry)) r (now (ground .exit)) (now (state .exit)) ⌝ }
 {
     let n = ground.len();
@@ -155,18 +152,37 @@ fn read_over(sheet: &[u8], ground: &mut [i32], state: &mut [i32], draft: &mut [i
         return Heard { number, card };
     }
     let end = n + m;
-    copy(&draft[..n], ground);
-    copy(&draft[n..end], state);
+    lists::copy(ground, &draft[..n]);
+    lists::copy(state, &draft[n..end]);
     let card = card_in(sheet);
     Heard { number: 0, card }
+}
+
+// The reader over a short draft. Each draft has a function of its own, so that no stack frame holds both.
+fn read_small(sheet: &[u8], ground: &mut [i32], state: &mut [i32]) -> Heard
+    requires { ⌜ length (now ground) + length (now state) ≤ 4160 ⌝ }
+    ensures { λ r. ⌜ ReadContract (now (sheet .entry)) (now (ground .entry)) (now (state .entry)) r (now (ground .exit)) (now (state .exit)) ⌝ }
+{
+    let mut draft = short();
+    read_over(sheet, ground, state, &mut draft)
+}
+
+// The reader over the longest draft.
+fn read_large(sheet: &[u8], ground: &mut [i32], state: &mut [i32]) -> Heard
+    ensures { λ r. ⌜ ReadContract (now (sheet .entry)) (now (ground .entry)) (now (state .entry)) r (now (ground .exit)) (now (state .exit)) ⌝ }
+{
+    let mut draft = longest();
+    read_over(sheet, ground, state, &mut draft)
 }
 
 // The site of a sheet.
 pub fn read_sheet(sheet: &[u8], ground: &mut [i32], state: &mut [i32]) -> Heard
     ensures { λ r. ⌜ ReadContract (now (sheet .entry)) (now (ground .entry)) (now (state .entry)) r (now (ground .exit)) (now (state .exit)) ⌝ }
 {
-    let mut draft = blank();
-    read_over(sheet, ground, state, &mut draft)
+    if ground.len() + state.len() <= 4160 {
+        return read_small(sheet, ground, state);
+    }
+    read_large(sheet, ground, state)
 }
 
 // The reader's number where its lists are cut to the header's size, over a draft.
@@ -188,6 +204,6 @@ fn own_number_over(sheet: &[u8], draft: &mut [i32]) -> u32
 pub fn own_number(sheet: &[u8]) -> u32
     ensures { λ r. ⌜ r ≡ readNumber (now (sheet .entry)) (cells (cardIn (now (sheet .entry)))) (stateLength (cardIn (now (sheet .entry)))) ⌝ }
 {
-    let mut draft = blank();
+    let mut draft = longest();
     own_number_over(sheet, &mut draft)
 }

@@ -1,9 +1,5 @@
 // The sheet writer. It checks all that it is given, looks for 8 last, and then lays one field behind the other.
 ghost use mathlib.Core.Path.{_≡_};
-ghost use mathlib.Core.Bool.{true};
-ghost use Prim.Native.Nat.{_≤_};
-ghost use lib.ListN.{length};
-ghost use Rattle.rules.specs.Site.{cardFits};
 ghost use Rattle.rules.specs.Sheet.{header};
 ghost use Rattle.rules.specs.Calls.{writeNumber};
 ghost use Rattle.rules.specs.Contracts.{WriteContract};

@@ -1,8 +1,9 @@
 -- `look`: 3 where the values fail, 0 where all passed, and the front's number before that.
 use mathlib.Core.Path.{_≡_, sym, _∙_}
-use Prim.Native.Nat.{_+_}
+use Prim.Native.Nat.{_+_, _≤_}
 use native.Mathlib.Nat.{suc-ne-zero}
 use native.Mathlib.Omega.{arith}
+use lib.ListN.{length}
 use lib.Seq.{length-take-le, take-at}
 use borrow.Author.Tests.{not-true, not-false}
 use Rattle.sheet.specs.Front.{frontNumber}
@@ -18,6 +19,10 @@ zero e = sym (e .before .front-number .ensures) ∙ e .if1 .left
 front : (e : tie.Else1) → Front (e .before .before .before .args .sheet .now) (e .before .before .before .args .n) (e .before .before .before .args .m)
 front e = front-facts _ _ _ (zero e)
 
+-- and the draft has room
+room : (e : tie.Else1) → e .before .before .before .args .n + e .before .before .before .args .m ≤ length (e .before .before .before .args .draft .now)
+room e = e .before .before .before .pre .room (few _ _ _ (front e))
+
 front-number-requires : tie.Need-front-number-requires
 front-number-requires c κs = search needs
 
@@ -31,21 +36,17 @@ add-end : tie.Need-add-end
 add-end c = let f = few _ _ _ (front c) in omega arith
 
 slice-relend-prefix-read-words : tie.Need-slice-relend-prefix-read-words
-slice-relend-prefix-read-words c = let f = few _ _ _ (front c) in omega arith
+slice-relend-prefix-read-words c = room c
 
 slice-aggregate-read-words : tie.Need-slice-aggregate-read-words
 slice-aggregate-read-words c =
-    let f = few _ _ _ (front (c .before)) in
     let a = c .before .before .before .before in
-    let h = a .pre in
-    sym (length-take-le (a .args .n + a .args .m) (a .args .draft .now) (omega arith))
+    sym (length-take-le (a .args .n + a .args .m) (a .args .draft .now) (room (c .before)))
 
 read-words-requires : tie.Need-read-words-requires
 read-words-requires c κs =
-    let f = few _ _ _ (front (c .before)) in
     let a = c .before .before .before .before in
-    let h = a .pre in
-    look-ready (a .args .sheet .now) (a .args .n) (a .args .m) (a .args .draft .now) (zero (c .before)) (omega arith)
+    look-ready (a .args .sheet .now) (a .args .n) (a .args .m) (a .args .draft .now) (zero (c .before)) (room (c .before))
 
 same-length : tie.Need-same-length
 same-length c = search needs
@@ -63,9 +64,7 @@ returns-3 c =
     let w = c .before .before in
     let e = w .before .before in
     let a = e .before .before .before in
-    let f = few _ _ _ (front e) in
-    let h = a .pre in
-    let k = w .read-words .kept .1 .1 .0 ∙ length-take-le (a .args .n + a .args .m) (a .args .draft .now) (omega arith) in
+    let k = w .read-words .kept .1 .1 .0 ∙ length-take-le (a .args .n + a .args .m) (a .args .draft .now) (room e) in
     (number-0 _ _ _ (front e) (sym (w .read-words .ensures .0) ∙ not-false _ (c .if2 .left)), λ z. take-at _ _ (a .args .n + a .args .m) k ∙ w .read-words .ensures .1)
 
 pub look-spec : {M : Type 1} → statement M

@@ -21,9 +21,8 @@ room : (e : tie.Else1)
     → length (e .before .before .before .before .before .args .ground .now) + length (e .before .before .before .before .before .args .state .now) ≤ length (e .before .before .look .last .1 .1 .1 .0)
 room e =
     let a = e .before .before .before .before .before in
-    let f = read-few (a .args .sheet .now) (length (a .args .ground .now)) (length (a .args .state .now)) (zero e) in
+    let f = a .pre .room (read-few (a .args .sheet .now) (length (a .args .ground .now)) (length (a .args .state .now)) (zero e)) in
     let k = e .before .before .look .kept .1 .1 .1 .0 in
-    let h = a .pre in
     omega arith
 
 front : (e : tie.Else1) → length (e .before .before .before .before .before .args .ground .now) ≡ length (take (length (e .before .before .before .before .before .args .ground .now)) (e .before .before .look .last .1 .1 .1 .0))
@@ -50,10 +49,10 @@ add-end : tie.Need-add-end
 add-end c = search needs
 
 slice-reshare-prefix-copy : tie.Need-slice-reshare-prefix-copy
-slice-reshare-prefix-copy c = let r = room c in omega arith
+slice-reshare-prefix-copy c = let r = room (c .before) in omega arith
 
 slice-aggregate-copy : tie.Need-slice-aggregate-copy
-slice-aggregate-copy c = front (c .before)
+slice-aggregate-copy c = front (c .before .before)
 
 copy-requires : tie.Need-copy-requires
 copy-requires c κs = front (c .before .before)
@@ -68,7 +67,7 @@ part-copy-start : tie.Need-part-copy-start
 part-copy-start c = search needs
 
 part-copy-end : tie.Need-part-copy-end
-part-copy-end c = let r = room (c .before .before .before .before .before) in omega arith
+part-copy-end c = let r = room (c .before .before .before .before .before .before) in omega arith
 
 copy-requires-2 : tie.Need-copy-requires-2
 copy-requires-2 c κs = search needs
