@@ -1,4 +1,2 @@
-pub mod Signed
-pub mod Loops
 pub mod Reading
 pub mod Writing

@@ -9,11 +9,6 @@ use Rattle.rules.specs.declared.Card.{Card}
 use Rattle.rules.specs.Site.{cells, stateLength, cardFits}
 use Rattle.sheet.specs.Front.{frontNumber}
 
--- a field of k bytes from index at on, of at most four bytes
-pub record Field (l : List ℕ) (at k : ℕ) : Type 0 where
-  pub narrow : k ≤ 4
-  pub inside : at + k ≤ length l
-
 -- a card that fits, and room for its header
 pub record Headed (c : Card) (l : List ℕ) : Type 0 where
   pub card : cardFits c ≡ true

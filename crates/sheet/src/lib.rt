@@ -1,5 +1,4 @@
 // The site sheet: its reader and its writer.
-mod numbers;
 mod reader;
 mod writer;
 

@@ -9,7 +9,6 @@ ghost use Rattle.rules.specs.Sheet.{cardIn, groundIn, stateIn, headFits, sheetS
 ghost use Rattle.rules.specs.Contracts.{ReadContract};
 ghost use Rattle.sheet.specs.Lent.{Joined, Ready, Room};
 ghost use Rattle.sheet.specs.Front.{frontNumber, sheetValuesFit};
-use crate::numbers;
 use rules::Card;
 use rules::Heard;
 

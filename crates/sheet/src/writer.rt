@@ -5,7 +5,6 @@ ghost use Rattle.rules.specs.Calls.{writeNumber};
 ghost use Rattle.rules.specs.Contracts.{WriteContract};
 ghost use Rattle.laws.specs.Laid.{laid};
 ghost use Rattle.sheet.specs.Lent.{Headed};
-use crate::numbers;
 use crate::reader;
 use rules::Card;
 use rules::Wrote;

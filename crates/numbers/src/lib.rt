@@ -5,7 +5,7 @@ ghost use lib.ListN.{length, drop};
 ghost use Rattle.rules.specs.Sheet.{numberIn, bytesOf, bitsOf, valueOf, wordsIn, wordsBytes};
 ghost use Rattle.laws.specs.Laid.{laid};
 ghost use Rattle.laws.specs.Swapped.{swapped};
-ghost use Rattle.sheet.specs.Lent.{Field};
+ghost use Rattle.numbers.specs.Field.{Field};
 
 fn wide(x: u8) -> u32
     ensures { λ r. ⌜ r ≡ x ⌝ }

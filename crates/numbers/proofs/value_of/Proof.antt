@@ -4,10 +4,10 @@ use mir.Syntax.{w32}
 use mir.Val.{SFits}
 use mir.ValLaws.{toZ-ofZ}
 use Rattle.laws.specs.Words.{value-is, value-fits}
-use Rattle.sheet.proofs.Signed.{high-away}
+use Rattle.numbers.proofs.Signed.{high-away}
 use borrow.Author.Needs.{needs}
-use Rattle.sheet.proofs.numbers.value_of.Statement.{statement}
-use Rattle.sheet.proofs.numbers.value_of.Tie as tie
+use Rattle.numbers.proofs.value_of.Statement.{statement}
+use Rattle.numbers.proofs.value_of.Tie as tie
 
 cast-result : tie.Need-cast-result
 cast-result c = search needs

@@ -1,7 +1,7 @@
 -- `bits_of`: both differences are those of the definition.
-use Rattle.sheet.proofs.Signed.{neg-sub, neg-cast, neg-le, neg-result, up-cast, up-result}
-use Rattle.sheet.proofs.numbers.bits_of.Statement.{statement}
-use Rattle.sheet.proofs.numbers.bits_of.Tie as tie
+use Rattle.numbers.proofs.Signed.{neg-sub, neg-cast, neg-le, neg-result, up-cast, up-result}
+use Rattle.numbers.proofs.bits_of.Statement.{statement}
+use Rattle.numbers.proofs.bits_of.Tie as tie
 
 sub-n : tie.Need-sub-n
 sub-n c = neg-sub (c .before .args .z) (c .before .fits .z) (c .if1 .taken)

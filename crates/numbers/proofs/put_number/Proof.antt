@@ -6,9 +6,9 @@ use native.Mathlib.Omega.{arith}
 use lib.ListN.{length, length-set}
 use Rattle.rules.specs.Sheet.{bytesOf}
 use Rattle.laws.specs.Laid.{laid}
-use Rattle.sheet.proofs.Loops.{put-turn, put-end}
-use Rattle.sheet.proofs.numbers.put_number.Statement.{statement}
-use Rattle.sheet.proofs.numbers.put_number.Tie as tie
+use Rattle.numbers.proofs.Loops.{put-turn, put-end}
+use Rattle.numbers.proofs.put_number.Statement.{statement}
+use Rattle.numbers.proofs.put_number.Tie as tie
 
 abbrev Inv-loop : tie.InvT-loop
 Inv-loop out₀ at k n rest₀ i₀ out rest i = (i ≤ k) × (length out ≡ length out₀) × (laid out at (bytesOf (k - i) rest) ≡ laid out₀ at (bytesOf k n))

@@ -5,9 +5,9 @@ use native.Mathlib.Omega.{arith}
 use lib.ListN.{drop}
 use Rattle.rules.specs.Sheet.{numberIn}
 use Rattle.laws.specs.Bytes.{number-none}
-use Rattle.sheet.proofs.Loops.{fits-more, below-more, number-turn}
-use Rattle.sheet.proofs.numbers.number.Statement.{statement}
-use Rattle.sheet.proofs.numbers.number.Tie as tie
+use Rattle.numbers.proofs.Loops.{fits-more, below-more, number-turn}
+use Rattle.numbers.proofs.number.Statement.{statement}
+use Rattle.numbers.proofs.number.Tie as tie
 
 abbrev Inv-loop : tie.InvT-loop
 Inv-loop s at k n₀ i₀ n i = (i ≤ k) × (n < 256 ^ i) × (n ≡ numberIn i (drop at s))

@@ -6,8 +6,8 @@ use lib.ListN.{length-set}
 use Rattle.laws.specs.Laid.{laid}
 use Rattle.laws.specs.Swapped.{bytes-swapped, four-laid}
 use borrow.Author.Needs.{needs}
-use Rattle.sheet.proofs.numbers.put_word.Statement.{statement}
-use Rattle.sheet.proofs.numbers.put_word.Tie as tie
+use Rattle.numbers.proofs.put_word.Statement.{statement}
+use Rattle.numbers.proofs.put_word.Tie as tie
 
 swapped-requires : tie.Need-swapped-requires
 swapped-requires c κs = search needs

@@ -7,9 +7,9 @@ use lib.ListN.{length, drop, length-set}
 use mir.Syntax.{w32}
 use mir.ValLaws.{toZ-ofZ}
 use Rattle.rules.specs.Sheet.{valueOf, wordsIn}
-use Rattle.sheet.proofs.Loops.{in-start, in-turn, in-end}
-use Rattle.sheet.proofs.numbers.get_words.Statement.{statement}
-use Rattle.sheet.proofs.numbers.get_words.Tie as tie
+use Rattle.numbers.proofs.Loops.{in-start, in-turn, in-end}
+use Rattle.numbers.proofs.get_words.Statement.{statement}
+use Rattle.numbers.proofs.get_words.Tie as tie
 
 abbrev Inv-loop : tie.InvT-loop
 Inv-loop s at words₀ i₀ i-end words i = (i-end ≡ length words₀) × (i ≤ i-end) × (length words ≡ length words₀) × (words ≡ wordsIn i (drop at s) ++ drop i words₀)

@@ -9,8 +9,8 @@ use mir.Syntax.{w8}
 use mir.Val.{Fits}
 use Rattle.laws.specs.Swapped.{number-swapped}
 use borrow.Author.Needs.{needs}
-use Rattle.sheet.proofs.numbers.word.Statement.{statement}
-use Rattle.sheet.proofs.numbers.word.Tie as tie
+use Rattle.numbers.proofs.word.Statement.{statement}
+use Rattle.numbers.proofs.word.Tie as tie
 
 -- each of the four is a byte
 byte : (x y : ℕ) → x ≡ y → Fits w8 y → x < 256

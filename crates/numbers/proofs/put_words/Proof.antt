@@ -8,9 +8,9 @@ use mir.Syntax.{w32}
 use mir.ValLaws.{toZ-ofZ}
 use Rattle.rules.specs.Sheet.{bitsOf, wordsBytes}
 use Rattle.laws.specs.Laid.{laid}
-use Rattle.sheet.proofs.Loops.{words-start, words-turn, words-end}
-use Rattle.sheet.proofs.numbers.put_words.Statement.{statement}
-use Rattle.sheet.proofs.numbers.put_words.Tie as tie
+use Rattle.numbers.proofs.Loops.{words-start, words-turn, words-end}
+use Rattle.numbers.proofs.put_words.Statement.{statement}
+use Rattle.numbers.proofs.put_words.Tie as tie
 
 abbrev Inv-loop : tie.InvT-loop
 Inv-loop out₀ at words i₀ i-end out i = (i-end ≡ length words) × (i ≤ i-end) × (length out ≡ length out₀) × (out ≡ laid out₀ at (wordsBytes (take i words)))

@@ -2,8 +2,8 @@
 use mathlib.Core.Path.{refl}
 use Rattle.laws.specs.Swapped.{swapped}
 use borrow.Author.Needs.{needs}
-use Rattle.sheet.proofs.numbers.swapped.Statement.{statement}
-use Rattle.sheet.proofs.numbers.swapped.Tie as tie
+use Rattle.numbers.proofs.swapped.Statement.{statement}
+use Rattle.numbers.proofs.swapped.Tie as tie
 
 mul-result : tie.Need-mul-result
 mul-result c = search needs
