@@ -11,7 +11,7 @@ use lib.Dec.{T, le→leb}
 use mir.Val.{toZ, ofZ}
 use mir.Syntax.{w32}
 use Rattle.rules.specs.declared.Card.{Card}
-use Rattle.rules.specs.Site.{readGround, readState, stateLength, cardFits, lengthsFit, valuesFit, groundsFit, depthsFit, facesFit, wallsStill, check}
+use Rattle.rules.specs.Site.{readGround, readState, stateLength, cardFits, lengthsFit, valuesFit, groundsFit, heightsFit, velocitiesFit, wallsStill, check}
 use Rattle.laws.specs.Sizes.{Within}
 use Rattle.laws.specs.Signed.{word-is}
 use Rattle.laws.specs.Tests.{four-of, to-T}
@@ -76,13 +76,13 @@ module _ {c : Card} {s : List ℤ} (sound : Sound c s) where
   side-fits true = record { low = facts .card .dx-low; high = facts .card .dx-high }
   side-fits false = record { low = facts .card .dy-low; high = facts .card .dy-high }
 
-  pub depths : T (depthsFit c (readState c s))
+  pub depths : T (heightsFit c (readState c s))
   unfolding check valuesFit
   depths =
       let g = sound .ground in
       let w = readState c s in
       let values = apart (cardFits c) (lengthsFit c g s) (valuesFit c (readGround c g) w) (sound .passes) .values in
-      four-of (groundsFit c (readGround c g)) (depthsFit c w) (facesFit c w) (wallsStill c w) (to-T values) .two
+      four-of (groundsFit c (readGround c g)) (heightsFit c w) (velocitiesFit c w) (wallsStill c w) (to-T values) .two
 
 -- ---- under the step limit: what crosses a face is at most a height
 

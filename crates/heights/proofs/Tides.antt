@@ -9,7 +9,7 @@ use lib.Signed.{leZ}
 use lib.ListN.{drop}
 use Rattle.rules.specs.declared.Card.{Card}
 use Rattle.rules.specs.Site.{readState, writeState}
-use Rattle.rules.specs.Step.{heightsFit}
+use Rattle.rules.specs.Step.{newHeightsFit}
 use Rattle.laws.specs.Grids.{allAt-same}
 use Rattle.laws.specs.States.{height-back, east-back, north-back}
 use Rattle.laws.specs.Behind.{behind-heights, east-alike, north-alike}
@@ -35,8 +35,8 @@ module _ {c : Card} {s t : List ℤ} (lists : Crossed c s t) where
 
 -- the heights of a list that holds the tide are the new ones
 pub tide-heights : {c : Card} (s : List ℤ) {t : List ℤ} → Holds c (tide c (readState c s)) t
-    → tideFits c t ≡ heightsFit c (readState c s)
-unfolding tideFits heightsFit tide
+    → tideFits c t ≡ newHeightsFit c (readState c s)
+unfolding tideFits newHeightsFit tide
 tide-heights {c} s {t} h =
     let w = tide c (readState c s) in
     allAt-same (c .columns) (c .rows) _ _ (λ i j hi hj. ap (λ (z : ℤ). leZ z (pos 50000000)) (ap (λ (l : List ℤ). readState c l .height i j) (h .is) ∙ height-back c w i j hi hj))

@@ -7,7 +7,7 @@ use lib.Dec.{T, ltb, ltb→lt, leb→le}
 use lib.IntN.{ℤ, pos, negsuc, natAbs}
 use lib.Signed.{leZ}
 use Rattle.rules.specs.declared.Card.{Card}
-use Rattle.rules.specs.Site.{Water, heightFits, depthsFit}
+use Rattle.rules.specs.Site.{Water, heightFits, heightsFit}
 use Rattle.rules.specs.Step.{transfer, eastTransfer, northTransfer, withinLimit, limitKept, newHeight}
 use Rattle.laws.specs.Tests.{and-left, and-right}
 use Rattle.laws.specs.Numbers.{abs-neg}
@@ -28,9 +28,9 @@ inner-within : {N : ℕ} (b : Bool) {x : ℤ} → (T b → Within N x) → Withi
 inner-within true h = h tt
 inner-within false h = record { size = zero-le }
 
-module _ (c : Card) (w : Water) (sideX : 0 < c .dx) (sideY : 0 < c .dy) (depths : T (depthsFit c w)) (limit : T (limitKept c w)) where
+module _ (c : Card) (w : Water) (sideX : 0 < c .dx) (sideY : 0 < c .dy) (depths : T (heightsFit c w)) (limit : T (limitKept c w)) where
   height-fits : (i j : ℕ) → i < c .columns → j < c .rows → T (heightFits (w .height i j))
-  unfolding depthsFit
+  unfolding heightsFit
   height-fits i j hi hj = allAt-at (c .columns) (c .rows) (λ i j. heightFits (w .height i j)) depths i j hi hj
 
   low : (i j : ℕ) → i < c .columns → j < c .rows → T (leZ (pos 0) (w .height i j))

@@ -13,7 +13,7 @@ use borrow.Author.Tests.{ltb-true, ltb-false}
 use lib.Arith.{digits-lt}
 use Rattle.rules.specs.declared.Card.{Card}
 use Rattle.rules.specs.Grid.{all}
-use Rattle.rules.specs.Site.{within, sizesFit, sidesFit, timesFit, cardFits, stateLength, lengthsFit, readGround, readState, groundFits, heightFits, speedFits, isZero, groundsFit, depthsFit, facesFit, wallsStill, valuesFit, firstOf, check, checkWith}
+use Rattle.rules.specs.Site.{within, sizesFit, sidesFit, timesFit, cardFits, stateLength, lengthsFit, readGround, readState, groundFits, heightFits, speedFits, isZero, groundsFit, heightsFit, velocitiesFit, wallsStill, valuesFit, firstOf, check, checkWith}
 use Rattle.laws.specs.Tests.{and-left, and-right, three-of, four-of, to-T, true-of}
 use Rattle.laws.specs.Grids.{all-at}
 use Rattle.laws.specs.Values.{grounds-flat, depths-flat, faces-flat}
@@ -146,7 +146,7 @@ value-facts c g s sized e =
     let faces = c .rows * suc (c .columns) + suc (c .rows) * c .columns in
     let w = readState c s in
     let lengths = length-facts c g s (sized .lengths) in
-    let t = four-of (groundsFit c (readGround c g)) (depthsFit c w) (facesFit c w) (wallsStill c w) (to-T e) in
+    let t = four-of (groundsFit c (readGround c g)) (heightsFit c w) (velocitiesFit c w) (wallsStill c w) (to-T e) in
     let grounds : T (all cells (λ k. groundFits (getD g k (pos 0)))) = subst T (grounds-flat c g) (t .one) in
     let heights : T (all cells (λ k. heightFits (getD s k (pos 0)))) = subst T (depths-flat c s) (t .two) in
     let speeds : T (all faces (λ k. speedFits (getD s (cells + k) (pos 0)))) = subst T (faces-flat c s) (t .three) in

@@ -11,8 +11,8 @@ use lib.ListN.{length}
 use lib.Dec.{T, eqb, eqb-refl}
 use Rattle.rules.specs.declared.Card.{Card}
 use Rattle.rules.specs.Grid.{Field, all}
-use Rattle.rules.specs.Site.{Water, cells, stateLength, readGround, readState, writeState, isZero, groundsFit, depthsFit, facesFit, wallsStill, valuesFit, lengthsFit, check}
-use Rattle.rules.specs.Step.{newHeight, newEast, newNorth, next, limitKept, heightsFit, sharesFit, speedsFit, number, stepNumber, nextState}
+use Rattle.rules.specs.Site.{Water, cells, stateLength, readGround, readState, writeState, isZero, groundsFit, heightsFit, velocitiesFit, wallsStill, valuesFit, lengthsFit, check}
+use Rattle.rules.specs.Step.{newHeight, newEast, newNorth, next, limitKept, newHeightsFit, sharesFit, newVelocitiesFit, number, stepNumber, nextState}
 use Rattle.laws.specs.Tests.{true-of, to-T, and-both, and-left, four-of, of-four}
 use Rattle.laws.specs.Grids.{all-intro, allAt-at, allAt-intro, all-same, allAt-same}
 use Rattle.laws.specs.States.{Alike, height-back, east-back, north-back, length-state}
@@ -24,12 +24,12 @@ use Rattle.laws.specs.Walls.{east-wall, north-wall}
 -- ---- the values of the next state
 
 module _ (c : Card) (w v : Water) (𝓐 : Alike c w v) where
-  depths-alike : depthsFit c w ≡ depthsFit c v
-  unfolding depthsFit
+  depths-alike : heightsFit c w ≡ heightsFit c v
+  unfolding heightsFit
   depths-alike = allAt-same (c .columns) (c .rows) _ _ (λ i j hi hj. rw (𝓐 .height i j hi hj))
 
-  faces-alike : facesFit c w ≡ facesFit c v
-  unfolding facesFit
+  faces-alike : velocitiesFit c w ≡ velocitiesFit c v
+  unfolding velocitiesFit
   faces-alike =
       ap₂ _&&_
       (allAt-same (suc (c .columns)) (c .rows) _ _ (λ i j hi hj. rw (𝓐 .east i j (omega arith) hj)))
@@ -54,8 +54,8 @@ module _ (c : Card) (g : Field) (w : Water) where
       (all-intro (c .rows) _ (λ j hj. rw (east-wall c g w (c .columns) j (le-refl (c .columns))) tt))
       (all-intro (c .columns) _ (λ i hi. rw (north-wall c g w i (c .rows) (le-refl (c .rows))) tt))
 
-  depths-next : 0 < c .dx → 0 < c .dy → T (depthsFit c w) → T (limitKept c w) → T (heightsFit c w) → T (depthsFit c (next c g w))
-  unfolding depthsFit next limitKept heightsFit
+  depths-next : 0 < c .dx → 0 < c .dy → T (heightsFit c w) → T (limitKept c w) → T (newHeightsFit c w) → T (heightsFit c (next c g w))
+  unfolding heightsFit next limitKept newHeightsFit
   depths-next hx hy d l h =
       allAt-intro (c .columns) (c .rows) _ (λ i j hi hj.
       and-both (leZ (pos 0) (newHeight c w i j)) (leZ (newHeight c w i j) (pos 50000000))
@@ -65,11 +65,11 @@ module _ (c : Card) (g : Field) (w : Water) where
       (allAt-at (c .columns) (c .rows) _ h i j hi hj))
 
   next-values : 0 < c .dx → 0 < c .dy → T (valuesFit c g w) → number c g w ≡ 0 → T (valuesFit c g (next c g w))
-  unfolding valuesFit facesFit next number speedsFit
+  unfolding valuesFit velocitiesFit next number newVelocitiesFit
   next-values hx hy t e =
-      let a = accepted (limitKept c w) (heightsFit c w) (sharesFit c g w) (speedsFit c g w) e in
-      let f = four-of (groundsFit c g) (depthsFit c w) (facesFit c w) (wallsStill c w) t in
-      of-four (groundsFit c g) (depthsFit c (next c g w)) (facesFit c (next c g w)) (wallsStill c (next c g w)) (record {
+      let a = accepted (limitKept c w) (newHeightsFit c w) (sharesFit c g w) (newVelocitiesFit c g w) e in
+      let f = four-of (groundsFit c g) (heightsFit c w) (velocitiesFit c w) (wallsStill c w) t in
+      of-four (groundsFit c g) (heightsFit c (next c g w)) (velocitiesFit c (next c g w)) (wallsStill c (next c g w)) (record {
         one = f .one;
         two = depths-next hx hy (f .two) (a .limit) (a .heights);
         three = a .speeds;

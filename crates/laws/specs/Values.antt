@@ -9,7 +9,7 @@ use lib.IntN.{ℤ, pos}
 use lib.ListN.{getD}
 use Rattle.rules.specs.declared.Card.{Card}
 use Rattle.rules.specs.Grid.{all}
-use Rattle.rules.specs.Site.{readGround, readState, groundFits, heightFits, speedFits, isZero, groundsFit, depthsFit, facesFit, wallsStill}
+use Rattle.rules.specs.Site.{readGround, readState, groundFits, heightFits, speedFits, isZero, groundsFit, heightsFit, velocitiesFit, wallsStill}
 use Rattle.laws.specs.Grids.{all-same}
 use Rattle.laws.specs.Flat.{flat, all-add}
 
@@ -17,14 +17,14 @@ pub grounds-flat : (c : Card) (g : List ℤ) → groundsFit c (readGround c g) �
 unfolding groundsFit readGround
 grounds-flat c g = flat (c .columns) (c .rows) (λ k. groundFits (getD g k (pos 0)))
 
-pub depths-flat : (c : Card) (s : List ℤ) → depthsFit c (readState c s) ≡ all (c .rows * c .columns) (λ k. heightFits (getD s k (pos 0)))
-unfolding depthsFit readState
+pub depths-flat : (c : Card) (s : List ℤ) → heightsFit c (readState c s) ≡ all (c .rows * c .columns) (λ k. heightFits (getD s k (pos 0)))
+unfolding heightsFit readState
 depths-flat c s = flat (c .columns) (c .rows) (λ k. heightFits (getD s k (pos 0)))
 
 -- eastward and northward velocities as one band behind the heights
 pub faces-flat : (c : Card) (s : List ℤ)
-    → facesFit c (readState c s) ≡ all (c .rows * suc (c .columns) + suc (c .rows) * c .columns) (λ k. speedFits (getD s (c .rows * c .columns + k) (pos 0)))
-unfolding facesFit readState
+    → velocitiesFit c (readState c s) ≡ all (c .rows * suc (c .columns) + suc (c .rows) * c .columns) (λ k. speedFits (getD s (c .rows * c .columns + k) (pos 0)))
+unfolding velocitiesFit readState
 faces-flat c s =
     let east = c .rows * suc (c .columns) in
     let fits : ℕ → Bool = λ k. speedFits (getD s (c .rows * c .columns + k) (pos 0)) in

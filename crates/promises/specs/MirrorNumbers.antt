@@ -5,8 +5,8 @@ use mathlib.Core.Bool.{_&&_}
 use native.Mathlib.Omega.{arith}
 use Rattle.rules.specs.declared.Card.{Card}
 use Rattle.rules.specs.Grid.{Field}
-use Rattle.rules.specs.Site.{Water, isZero, groundsFit, depthsFit, facesFit, wallsStill, valuesFit}
-use Rattle.rules.specs.Step.{withinLimit, eastFace, northFace, newEast, limitKept, heightsFit, sharesFit, speedsFit, number}
+use Rattle.rules.specs.Site.{Water, isZero, groundsFit, heightsFit, velocitiesFit, wallsStill, valuesFit}
+use Rattle.rules.specs.Step.{withinLimit, eastFace, northFace, newEast, limitKept, newHeightsFit, sharesFit, newVelocitiesFit, number}
 use Rattle.rules.specs.Fair.{share-along, share-across}
 use Rattle.laws.specs.Tests.{and-comm}
 use Rattle.laws.specs.Numbers.{abs-neg}
@@ -19,8 +19,8 @@ module _ (c : Card) (w w′ : Water) (𝓜 : Mirror c w w′) (g g′ : Field) (
   unfolding limitKept
   limit-same = allAt-mirror (c .columns) (c .rows) (withinLimit c w) (withinLimit c w′) (M.limits c w w′ 𝓜)
 
-  heights-same : heightsFit c w′ ≡ heightsFit c w
-  unfolding heightsFit
+  heights-same : newHeightsFit c w′ ≡ newHeightsFit c w
+  unfolding newHeightsFit
   heights-same = allAt-mirror (c .columns) (c .rows) _ _ (λ i i′ j e h. rw (M.new-heights c w w′ 𝓜 i i′ j e h))
 
   shares-same : sharesFit c g′ w′ ≡ sharesFit c g w
@@ -30,8 +30,8 @@ module _ (c : Card) (w w′ : Water) (𝓜 : Mirror c w w′) (g g′ : Field) (
       (allAt-mirror (c .columns - 1) (c .rows) _ _ (λ i i′ j e h. rw (M.east-faces c w w′ 𝓜 g g′ 𝓖 i i′ j (omega arith) h, share-along (eastFace c g w i′ j))))
       (allAt-mirror (c .columns) (c .rows - 1) _ _ (λ i i′ j e h. rw (M.north-faces c w w′ 𝓜 g g′ 𝓖 i i′ j e (omega arith), share-across (northFace c g w i′ j))))
 
-  speeds-same : speedsFit c g′ w′ ≡ speedsFit c g w
-  unfolding speedsFit
+  speeds-same : newVelocitiesFit c g′ w′ ≡ newVelocitiesFit c g w
+  unfolding newVelocitiesFit
   speeds-same =
       ap₂ _&&_
       (allAt-mirror (suc (c .columns)) (c .rows) _ _ (λ i i′ j e h. rw (M.new-easts c w w′ 𝓜 g g′ 𝓖 i i′ j (omega arith) h, abs-neg (newEast c g w i′ j))))
@@ -42,7 +42,7 @@ module _ (c : Card) (w w′ : Water) (𝓜 : Mirror c w w′) (g g′ : Field) (
   numbers = rw (limit-same, heights-same, shares-same, speeds-same)
 
   pub values-same : valuesFit c g′ w′ ≡ valuesFit c g w
-  unfolding valuesFit groundsFit depthsFit facesFit wallsStill
+  unfolding valuesFit groundsFit heightsFit velocitiesFit wallsStill
   values-same =
       ap₂ _&&_
       (ap₂ _&&_

@@ -8,8 +8,8 @@ use lib.Dec.{T, leb, le→leb}
 use Rattle.rules.specs.declared.Card.{Card}
 use Rattle.rules.specs.declared.Tally.{Tally}
 use Rattle.rules.specs.Grid.{Field}
-use Rattle.rules.specs.Site.{Water, stateLength, readGround, readState, writeState, within, sizesFit, sidesFit, timesFit, cardFits, lengthsFit, groundsFit, depthsFit, facesFit, wallsStill, valuesFit, check}
-use Rattle.rules.specs.Step.{eastTransfer, northTransfer, newHeight, eastFace, northFace, newEast, newNorth, next, withinLimit, limitKept, heightsFit, sharesFit, speedsFit, number, stepNumber, nextState}
+use Rattle.rules.specs.Site.{Water, stateLength, readGround, readState, writeState, within, sizesFit, sidesFit, timesFit, cardFits, lengthsFit, groundsFit, heightsFit, velocitiesFit, wallsStill, valuesFit, check}
+use Rattle.rules.specs.Step.{eastTransfer, northTransfer, newHeight, eastFace, northFace, newEast, newNorth, next, withinLimit, limitKept, newHeightsFit, sharesFit, newVelocitiesFit, number, stepNumber, nextState}
 use Rattle.rules.specs.Run.{peak, accepted, runOn}
 use Rattle.laws.specs.Tests.{true-of, to-T, and-both, and-left, three-of}
 use Rattle.laws.specs.Checks.{apart, together}
@@ -60,16 +60,16 @@ module _ (c : Card) (a b : ℕ) (g : Field) (w : Water) where
   unfolding limitKept withinLimit
   limit-same = refl
 
-  heights-same : heightsFit (wanting c a) w ≡ heightsFit (wanting c b) w
-  unfolding heightsFit
+  heights-same : newHeightsFit (wanting c a) w ≡ newHeightsFit (wanting c b) w
+  unfolding newHeightsFit
   heights-same = simp heights
 
   shares-same : sharesFit (wanting c a) g w ≡ sharesFit (wanting c b) g w
   unfolding sharesFit
   shares-same = simp (east-faces, north-faces)
 
-  speeds-same : speedsFit (wanting c a) g w ≡ speedsFit (wanting c b) g w
-  unfolding speedsFit
+  speeds-same : newVelocitiesFit (wanting c a) g w ≡ newVelocitiesFit (wanting c b) g w
+  unfolding newVelocitiesFit
   speeds-same = simp (easts, norths)
 
   numbers : number (wanting c a) g w ≡ number (wanting c b) g w
@@ -95,7 +95,7 @@ module _ (c : Card) (a b : ℕ) (g s : List ℤ) where
   times-fit t h = and-both (within 1 1000 (c .dt)) (leb b 10000) (and-left (within 1 1000 (c .dt)) (leb a 10000) t) (le→leb b 10000 h)
 
   pub same-check : check (wanting c a) g s ≡ 0 → b ≤ 10000 → check (wanting c b) g s ≡ 0
-  unfolding check cardFits sizesFit sidesFit lengthsFit stateLength valuesFit groundsFit depthsFit facesFit wallsStill readGround readState
+  unfolding check cardFits sizesFit sidesFit lengthsFit stateLength valuesFit groundsFit heightsFit velocitiesFit wallsStill readGround readState
   same-check e h =
       let p = apart _ _ _ e in
       let f = three-of (sizesFit c) (sidesFit c) (timesFit (wanting c a)) (to-T (p .card)) in

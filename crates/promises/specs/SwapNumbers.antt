@@ -5,8 +5,8 @@ use mathlib.Core.Bool.{_&&_}
 use native.Mathlib.Omega.{arith}
 use Rattle.rules.specs.declared.Card.{Card}
 use Rattle.rules.specs.Grid.{Field}
-use Rattle.rules.specs.Site.{Water, groundsFit, depthsFit, facesFit, wallsStill, valuesFit}
-use Rattle.rules.specs.Step.{withinLimit, limitKept, heightsFit, sharesFit, speedsFit, number}
+use Rattle.rules.specs.Site.{Water, groundsFit, heightsFit, velocitiesFit, wallsStill, valuesFit}
+use Rattle.rules.specs.Step.{withinLimit, limitKept, newHeightsFit, sharesFit, newVelocitiesFit, number}
 use Rattle.rules.specs.Turn.{swapCard}
 use Rattle.laws.specs.Tests.{and-cross}
 use Rattle.laws.specs.Grids.{allAt-swap, all-same}
@@ -18,8 +18,8 @@ module _ (c : Card) (w w′ : Water) (𝓢 : Swapped c w w′) (g g′ : Field) 
   unfolding limitKept
   limit-same = allAt-swap (c .columns) (c .rows) (withinLimit c w) (withinLimit (swapCard c) w′) (S.limits c w w′ 𝓢)
 
-  heights-same : heightsFit (swapCard c) w′ ≡ heightsFit c w
-  unfolding heightsFit
+  heights-same : newHeightsFit (swapCard c) w′ ≡ newHeightsFit c w
+  unfolding newHeightsFit
   heights-same = allAt-swap (c .columns) (c .rows) _ _ (λ i j hi hj. rw (S.new-heights c w w′ 𝓢 i j hi hj))
 
   shares-same : sharesFit (swapCard c) g′ w′ ≡ sharesFit c g w
@@ -29,8 +29,8 @@ module _ (c : Card) (w w′ : Water) (𝓢 : Swapped c w w′) (g g′ : Field) 
       (allAt-swap (c .columns) (c .rows - 1) _ _ (λ i j hi hj. rw (S.east-faces c w w′ 𝓢 g g′ 𝓖 i j (omega arith) hj)))
       (allAt-swap (c .columns - 1) (c .rows) _ _ (λ i j hi hj. rw (S.north-faces c w w′ 𝓢 g g′ 𝓖 i j hi (omega arith))))
 
-  speeds-same : speedsFit (swapCard c) g′ w′ ≡ speedsFit c g w
-  unfolding speedsFit
+  speeds-same : newVelocitiesFit (swapCard c) g′ w′ ≡ newVelocitiesFit c g w
+  unfolding newVelocitiesFit
   speeds-same =
       and-cross
       (allAt-swap (c .columns) (suc (c .rows)) _ _ (λ i j hi hj. rw (S.new-easts c w w′ 𝓢 g g′ 𝓖 i j (omega arith) hj)))
@@ -41,7 +41,7 @@ module _ (c : Card) (w w′ : Water) (𝓢 : Swapped c w w′) (g g′ : Field) 
   numbers = rw (limit-same, heights-same, shares-same, speeds-same)
 
   pub values-same : valuesFit (swapCard c) g′ w′ ≡ valuesFit c g w
-  unfolding valuesFit groundsFit depthsFit facesFit wallsStill
+  unfolding valuesFit groundsFit heightsFit velocitiesFit wallsStill
   values-same =
       ap₂ _&&_
       (ap₂ _&&_

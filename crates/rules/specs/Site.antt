@@ -79,11 +79,11 @@ isZero z = eqb (natAbs z) 0
 unfoldable pub groundsFit : Card → Field → Bool
 groundsFit c g = allAt (c .columns) (c .rows) (λ i j. groundFits (g i j))
 
-unfoldable pub depthsFit : Card → Water → Bool
-depthsFit c w = allAt (c .columns) (c .rows) (λ i j. heightFits (w .height i j))
+unfoldable pub heightsFit : Card → Water → Bool
+heightsFit c w = allAt (c .columns) (c .rows) (λ i j. heightFits (w .height i j))
 
-unfoldable pub facesFit : Card → Water → Bool
-facesFit c w =
+unfoldable pub velocitiesFit : Card → Water → Bool
+velocitiesFit c w =
     allAt (suc (c .columns)) (c .rows) (λ i j. speedFits (w .east i j))
     && allAt (c .columns) (suc (c .rows)) (λ i j. speedFits (w .north i j))
 
@@ -93,7 +93,7 @@ wallsStill c w =
     && all (c .columns) (λ i. isZero (w .north i 0) && isZero (w .north i (c .rows)))
 
 unfoldable pub valuesFit : Card → Field → Water → Bool
-valuesFit c g w = groundsFit c g && depthsFit c w && facesFit c w && wallsStill c w
+valuesFit c g w = groundsFit c g && heightsFit c w && velocitiesFit c w && wallsStill c w
 
 -- ---- The lowest number that applies
 

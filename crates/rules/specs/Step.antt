@@ -164,8 +164,8 @@ unfoldable pub limitKept : Card → Water → Bool
 limitKept c w = allAt (c .columns) (c .rows) (withinLimit c w)
 
 -- 5: some new height exceeds 50,000,000
-unfoldable pub heightsFit : Card → Water → Bool
-heightsFit c w = allAt (c .columns) (c .rows) (λ i j. leZ (newHeight c w i j) (pos 50000000))
+unfoldable pub newHeightsFit : Card → Water → Bool
+newHeightsFit c w = allAt (c .columns) (c .rows) (λ i j. leZ (newHeight c w i j) (pos 50000000))
 
 -- 6: some own share is negative
 unfoldable pub sharesFit : Card → Field → Water → Bool
@@ -174,8 +174,8 @@ sharesFit c g w =
     && allAt (c .columns) (c .rows - 1) (λ i j. leZ (pos 0) (ownShare (northFace c g w i j)))
 
 -- 7: some new velocity lies outside its range
-unfoldable pub speedsFit : Card → Field → Water → Bool
-speedsFit c g w =
+unfoldable pub newVelocitiesFit : Card → Field → Water → Bool
+newVelocitiesFit c g w =
     allAt (suc (c .columns)) (c .rows) (λ i j. speedFits (newEast c g w i j))
     && allAt (c .columns) (suc (c .rows)) (λ i j. speedFits (newNorth c g w i j))
 
@@ -187,7 +187,7 @@ answer true true true false = 7
 answer true true true true = 0
 
 unfoldable pub number : Card → Field → Water → ℕ
-number c g w = answer (limitKept c w) (heightsFit c w) (sharesFit c g w) (speedsFit c g w)
+number c g w = answer (limitKept c w) (newHeightsFit c w) (sharesFit c g w) (newVelocitiesFit c g w)
 
 -- ---- One step of a site that passes the first three checks: its number, and its next state
 

@@ -9,7 +9,7 @@ use lib.IntN.{ℤ}
 use lib.ListN.{length, drop}
 use Rattle.rules.specs.declared.Card.{Card}
 use Rattle.rules.specs.Site.{readGround, readState, stateLength, check}
-use Rattle.rules.specs.Step.{limitKept, heightsFit, sharesFit, speedsFit, answer, number, stepNumber, nextState}
+use Rattle.rules.specs.Step.{limitKept, newHeightsFit, sharesFit, newVelocitiesFit, answer, number, stepNumber, nextState}
 use Rattle.laws.specs.Reading.{Holds}
 use Rattle.laws.specs.Tested.{Filled}
 use Rattle.heights.specs.Tide.{tide, crossings, tideFits}
@@ -40,14 +40,14 @@ module _ {c : Card} {g s t n : List ℤ} (ready : Ready c g s t n) {kept : Bool}
 
 -- the new heights, in a tide
 module _ {c : Card} {s t : List ℤ} (limited : Limited c s) (holds : Holds c (tide c (readState c s)) t) {fit : Bool} (looked : fit ≡ tideFits c t) where
-  fit-is : fit ≡ heightsFit c (readState c s)
+  fit-is : fit ≡ newHeightsFit c (readState c s)
   fit-is = looked ∙ tide-heights s holds
 
   -- 5
   pub height-broken : not fit ≡ true → {g m : List ℤ} → Advanced c g s 5 m
   unfolding stepNumber number answer
   height-broken b =
-      let h : heightsFit c (readState c s) ≡ false = sym fit-is ∙ not-true fit b in
+      let h : newHeightsFit c (readState c s) ≡ false = sym fit-is ∙ not-true fit b in
       record { number = rw (limited .limit, h); state = λ e. absurd (suc-ne-zero 4 e) }
 
   pub next-room : not fit ≡ false → {g : List ℤ} → check c g s ≡ 0 → {n : List ℤ} → length n ≡ stateLength c → NextRoom c g s t n
@@ -62,7 +62,7 @@ module _ {c : Card} {g s t : List ℤ} (flowing : Flowing c g s t) {shared : Boo
       let r : sharesFit c (readGround c g) (readState c s) ≡ false = sym looked ∙ not-true shared b in
       record { number = rw (flowing .limit, flowing .heights, r); state = λ e. absurd (suc-ne-zero 5 e) }
 
-  module _ (share : not shared ≡ false) {fast : Bool} {m : List ℤ} (filled : Filled (speedsFit c (readGround c g) (readState c s)) (nextState c g s) fast m) where
+  module _ (share : not shared ≡ false) {fast : Bool} {m : List ℤ} (filled : Filled (newVelocitiesFit c (readGround c g) (readState c s)) (nextState c g s) fast m) where
     shares-fit : sharesFit c (readGround c g) (readState c s) ≡ true
     shares-fit = sym looked ∙ not-false shared share
 
@@ -70,7 +70,7 @@ module _ {c : Card} {g s t : List ℤ} (flowing : Flowing c g s t) {shared : Boo
     pub speed-broken : not fast ≡ true → Advanced c g s 7 m
     unfolding stepNumber number answer
     speed-broken b =
-        let v : speedsFit c (readGround c g) (readState c s) ≡ false = sym (filled .every-one) ∙ not-true fast b in
+        let v : newVelocitiesFit c (readGround c g) (readState c s) ≡ false = sym (filled .every-one) ∙ not-true fast b in
         record { number = rw (flowing .limit, flowing .heights, shares-fit, v); state = λ e. absurd (suc-ne-zero 6 e) }
 
     -- 0
@@ -78,5 +78,5 @@ module _ {c : Card} {g s t : List ℤ} (flowing : Flowing c g s t) {shared : Boo
     unfolding stepNumber number answer
     all-kept b =
         let yes : fast ≡ true = not-false fast b in
-        let v : speedsFit c (readGround c g) (readState c s) ≡ true = sym (filled .every-one) ∙ yes in
+        let v : newVelocitiesFit c (readGround c g) (readState c s) ≡ true = sym (filled .every-one) ∙ yes in
         record { number = rw (flowing .limit, flowing .heights, shares-fit, v); state = λ e. filled .is yes }

@@ -9,7 +9,7 @@ use lib.Signed.{leZ}
 use lib.Dec.{ltb}
 use Rattle.rules.specs.declared.Card.{Card}
 use Rattle.rules.specs.Site.{Water, readGround, readState}
-use Rattle.rules.specs.Step.{after, before, newHeight, heightsFit}
+use Rattle.rules.specs.Step.{after, before, newHeight, newHeightsFit}
 use Rattle.laws.specs.Tests.{to-T}
 use Rattle.laws.specs.Grids.{allAt-at}
 use Rattle.laws.specs.Sizes.{Within}
@@ -40,7 +40,7 @@ module _ {N : ℕ} (f : ℕ → ℤ) (h : (k : ℕ) → Within N (f k)) where
 
 module _ {c : Card} {g s t : List ℤ} (f : Flowing c g s t) where
   new-fits : {i j : ℕ} → Cell c i j → Height (newHeight c (readState c s) i j)
-  unfolding heightsFit
+  unfolding newHeightsFit
   new-fits {i} {j} k =
       let w : Water = readState c s in
       let card = facts (sound-of f) .card in

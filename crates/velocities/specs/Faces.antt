@@ -8,7 +8,7 @@ use Rattle.rules.specs.declared.Card.{Card}
 use Rattle.rules.specs.declared.Face.{Face}
 use Rattle.rules.specs.Grid.{Field}
 use Rattle.rules.specs.Site.{Water, readState, check}
-use Rattle.rules.specs.Step.{limitKept, heightsFit, eastFace, northFace}
+use Rattle.rules.specs.Step.{limitKept, newHeightsFit, eastFace, northFace}
 use Rattle.laws.specs.Reading.{Holds}
 use Rattle.heights.specs.Tide.{tide}
 use Rattle.heights.specs.Ways.{forth}
@@ -17,7 +17,7 @@ use Rattle.heights.specs.Ways.{forth}
 pub record Flowing (c : Card) (g s t : List ℤ) : Type 0 where
   pub passes : check c g s ≡ 0
   pub limit : limitKept c (readState c s) ≡ true
-  pub heights : heightsFit c (readState c s) ≡ true
+  pub heights : newHeightsFit c (readState c s) ≡ true
   pub tide : Holds c (tide c (readState c s)) t
 
 -- the inner face of which (i, j) is cell K, eastward (`true`) or northward (`false`)

@@ -9,7 +9,7 @@ use native.Mathlib.Omega.{arith}
 use lib.IntN.{ℤ, pos}
 use lib.ListN.{length, getD}
 use Rattle.rules.specs.Grid.{all}
-use Rattle.rules.specs.Site.{stateLength, readGround, readState, groundFits, heightFits, groundsFit, depthsFit, facesFit, valuesFit}
+use Rattle.rules.specs.Site.{stateLength, readGround, readState, groundFits, heightFits, groundsFit, heightsFit, velocitiesFit, valuesFit}
 use Rattle.laws.specs.Between.{size-between}
 use Rattle.laws.specs.Grids.{all-same}
 use Rattle.laws.specs.Facts.{length-facts}
@@ -59,10 +59,10 @@ returns c =
     let n = grounds .before .cells .ensures .0 in
     let e₁ : grounds .all-between .result ≡ groundsFit a (readGround a g) =
     grounds .all-between .ensures ∙ rw n (agree (a .rows * a .columns) 0 g _ _ (size-between 49999999) ∙ from-0 (a .rows * a .columns) g groundFits ∙ sym (grounds-flat a g)) in
-    let e₂ : depths .all-between2 .result ≡ depthsFit a (readState a s) =
+    let e₂ : depths .all-between2 .result ≡ heightsFit a (readState a s) =
     depths .all-between2 .ensures ∙ rw n (from-0 (a .rows * a .columns) s heightFits ∙ sym (depths-flat a s)) in
     let m : length s - a .rows * a .columns ≡ a .rows * suc (a .columns) + suc (a .rows) * a .columns = omega arith in
-    let e₃ : speeds .all-between3 .result ≡ facesFit a (readState a s) =
+    let e₃ : speeds .all-between3 .result ≡ velocitiesFit a (readState a s) =
     speeds .all-between3 .ensures ∙ rw (n, m) (agree _ (a .rows * a .columns) s _ _ (size-between 19999999) ∙ sym (faces-flat a s)) in
     cc (e₁, e₂, e₃, c .walls-still .ensures)
 

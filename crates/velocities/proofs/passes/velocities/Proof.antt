@@ -6,7 +6,7 @@ use borrow.Author.Needs.{needs}
 use borrow.Author.Tests.{not-true, not-false}
 use lib.ListN.{length}
 use lib.Seq.{length-take-le}
-use Rattle.rules.specs.Step.{speedsFit}
+use Rattle.rules.specs.Step.{newVelocitiesFit}
 use Rattle.laws.specs.Grids.{length-grid}
 use Rattle.laws.specs.Parts.{two-parts, length-part}
 use Rattle.laws.specs.Tested.{first-left, both-filled}
@@ -45,7 +45,7 @@ same-length : tie.Need-same-length
 same-length c = search needs
 
 returns : tie.Need-returns
-unfolding speedsFit newSpeeds across up
+unfolding newVelocitiesFit newSpeeds across up
 returns c = first-left _ (c .before .before .pass .ensures) (not-true _ (c .if1 .taken))
 
 mul-pass : tie.Need-mul-pass
@@ -69,7 +69,7 @@ same-length-2 : tie.Need-same-length-2
 same-length-2 c = search needs
 
 returns-2 : tie.Need-returns-2
-unfolding speedsFit nextVelocities newSpeeds across up
+unfolding newVelocitiesFit nextVelocities newSpeeds across up
 returns-2 c =
     let card = c .before .before .before .before .before .before .before .before .before .args .card in
     let long : card .rows * suc (card .columns) ≡ card .rows * (card .columns + 1) = omega arith in
