@@ -27,10 +27,11 @@ two a b u = a ∷ b ∷ pos 0 ∷ u ∷ pos 0 ∷ flat 4
 unfoldable pub three : (west middle east : ℤ) → List ℤ
 three a b c = a ∷ b ∷ c ∷ flat 10
 
--- a row of the table: the step of such a site is accepted, and gives such a state; it is refused, and leaves the list as it was lent
-abbrev pub Steps : (columns : ℕ) (ground state after : List ℤ) → Type 0
-Steps columns g s after = (stepAnswer (row columns) g s s ≡ 0) × (stepNext (row columns) g s s ≡ after)
+-- a row of the table, where the list that is lent for the next state holds the state itself: the step is accepted, and leaves this state there
+abbrev pub Steps : (columns : ℕ) (ground state then : List ℤ) → Type 0
+Steps columns g s then = (stepAnswer (row columns) g s s ≡ 0) × (stepNext (row columns) g s s ≡ then)
 
+-- the step is refused with this number, and leaves the list as it was lent
 abbrev pub Refuses : (columns : ℕ) (ground state : List ℤ) (number : ℕ) → Type 0
 Refuses columns g s k = (stepAnswer (row columns) g s s ≡ k) × (stepNext (row columns) g s s ≡ s)
 
@@ -41,7 +42,7 @@ pub record Starred : Type 0 where
   -- the middle at 10,000,000 empties the west cell; one more breaks the step limit
   pub emptied : Steps 2 (flat 2) (two (pos 2000000) (pos 1000000) (pos 10000000)) (two (pos 0) (pos 3000000) (pos 391338))
   pub over-limit : Refuses 2 (flat 2) (two (pos 2000000) (pos 1000000) (pos 10000001)) 4
-  -- from height 3 at 5,000,000: 1; at -5,000,000: -1, not -2 (`negsuc n` is -(n + 1))
+  -- from height 3 at 5,000,000: 1; at -5,000,000: -1, not -2
   pub transfer-east : transfer 100 1000000 (pos 3) (pos 3) (pos 5000000) ≡ pos 1
   pub transfer-west : transfer 100 1000000 (pos 3) (pos 3) (negℤ (pos 5000000)) ≡ negℤ (pos 1)
   -- a pond over uneven ground lies still

@@ -122,7 +122,7 @@ positive (negsuc n) = pos 0
 unfoldable pub ownShare : Face → ℤ
 ownShare f = f .oldK +ℤ f .oldL -ℤ (positive (outAhead f) +ℤ positive (outBehind f) +ℤ (positive (outAbove f) +ℤ positive (outBelow f)))
 
--- flow in, times the velocity of the parallel face that it comes from
+-- flow in, times the velocity of the parallel face that it comes from; a wall face gives 0, since the first three checks leave 0 on every wall
 unfoldable pub brought : (out v : ℤ) → ℤ
 brought out v = positive (negℤ out) *ℤ v
 

@@ -5,7 +5,7 @@ ghost use Rattle.laws.specs.Tested.{Filled};
 ghost use Rattle.step.specs.Advance.{Ready, NextRoom, Advanced};
 use rules::Card;
 
-// Fills the next state: its heights from the tide, and the velocities behind them. Where a velocity does not fit, only its length is promised.
+// Fills the next state: its heights from the tide, and the velocities behind them. Where a velocity does not fit, nothing is promised of its words.
 fn fill_next(card: Card, ground: &[i32], state: &[i32], tide: &[i32], next: &mut [i32]) -> bool
     requires { ⌜ NextRoom card (now ground) (now state) (now tide) (now next) ⌝ }
     ensures { λ r. ⌜ Filled (newVelocitiesFit card (readGround card (now (ground .entry))) (readState card (now (state .entry)))) (nextState card (now (ground .entry)) (now (state .entry))) r (now (next .exit)) ⌝ }
@@ -31,7 +31,7 @@ fn move_on(card: Card, ground: &[i32], state: &[i32], tide: &[i32], next: &mut [
     0
 }
 
-// The step's number. Where it is 0, `next` is the next state; otherwise only its length is promised.
+// The step's number. Where it is 0, `next` is the next state; otherwise nothing is promised of its words.
 pub fn advance(card: Card, ground: &[i32], state: &[i32], tide: &mut [i32], next: &mut [i32]) -> u32
     requires { ⌜ Ready card (now ground) (now state) (now tide) (now next) ⌝ }
     ensures { λ r. ⌜ Advanced card (now (ground .entry)) (now (state .entry)) r (now (next .exit)) ⌝ }

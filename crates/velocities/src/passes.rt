@@ -63,7 +63,7 @@ fn pass(
     true
 }
 
-// Both, in the part of the next state that starts behind the heights. Where one is out of range, only the part's length is promised.
+// Both, in the part of the next state that starts behind the heights. Where one is out of range, nothing is promised of the part's words.
 pub fn velocities(card: Card, ground: &[i32], state: &[i32], tide: &[i32], part: &mut [i32]) -> bool
     requires { ⌜ Room card (now ground) (now state) (now tide) (card .rows * suc (card .columns) + suc (card .rows) * card .columns) (now part) ⌝ }
     ensures { λ r. ⌜ Filled (newVelocitiesFit card (readGround card (now (ground .entry))) (readState card (now (state .entry)))) (nextVelocities card (now (ground .entry)) (now (state .entry))) r (now (part .exit)) ⌝ }

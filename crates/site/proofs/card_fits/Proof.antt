@@ -21,7 +21,14 @@ is-within-requires-5 c κs = search needs
 
 returns : tie.Need-returns
 unfolding cardFits sizesFit sidesFit timesFit
-returns c = cc
+returns c =
+    rw (
+      c .before .before .before .before .before .is-within .ensures,
+      c .before .before .before .before .is-within2 .ensures,
+      c .before .before .before .is-within3 .ensures,
+      c .before .before .is-within4 .ensures,
+      c .before .is-within5 .ensures,
+    )
 
 pub card-fits-spec : {M : Type 1} → statement M
 card-fits-spec =
