@@ -202,12 +202,21 @@ impl Site {
     }
 
     /// The height of the cell in a column, counted from the west, and a row, counted from the south.
+    ///
+    /// # Panics
+    ///
+    /// If the site has no such column or row.
     pub fn height(&self, column: u32, row: u32) -> i32 {
         assert!(column < self.card.columns, "column {column} of {}", self.card.columns);
-        self.state[row as usize * self.card.columns as usize + column as usize]
+        assert!(row < self.card.rows, "row {row} of {}", self.card.rows);
+        self.heights()[row as usize * self.card.columns as usize + column as usize]
     }
 
     /// The depth text of one cell.
+    ///
+    /// # Panics
+    ///
+    /// If the site has no such column or row.
     pub fn depth_text(&self, column: u32, row: u32) -> String {
         calls::depth_text(self.height(column, row), &mut [0; 7]).expect("a kept height has a text").to_string()
     }

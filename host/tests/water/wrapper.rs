@@ -60,6 +60,31 @@ fn a_site_steps_as_the_model() {
     });
 }
 
+/// A site of 3 columns and 2 rows, whose heights are 1 to 6.
+fn six_cells() -> Site {
+    let card = Card { columns: 3, rows: 2, dx: 1_000_000, dy: 1_000_000, dt: 100, steps: 5 };
+    Site::still(card, vec![0; 6], &[1, 2, 3, 4, 5, 6]).unwrap()
+}
+
+#[test]
+fn a_cell_by_column_and_row() {
+    let site = six_cells();
+    assert_eq!((site.height(0, 0), site.height(2, 0), site.height(0, 1), site.height(2, 1)), (1, 3, 4, 6));
+    assert_eq!(site.depth_text(2, 1), "<1 cm");
+}
+
+#[test]
+#[should_panic(expected = "column 3 of 3")]
+fn a_column_too_far_east() {
+    six_cells().height(3, 0);
+}
+
+#[test]
+#[should_panic(expected = "row 2 of 2")]
+fn a_row_too_far_north() {
+    six_cells().height(0, 2);
+}
+
 #[test]
 fn a_run_in_slices_ends_as_a_whole_run() {
     let mut stopped = 0;
