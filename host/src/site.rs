@@ -18,7 +18,7 @@ use std::ops::ControlFlow;
 /// assert_eq!(site.depth_text(0, 0), "180 cm");
 /// # Ok::<(), water::Refusal>(())
 /// ```
-#[derive(Clone, Debug, PartialEq, Eq)]
+#[derive(Clone, Debug)]
 pub struct Site {
     card: Card,
     ground: Vec<i32>,
@@ -26,6 +26,15 @@ pub struct Site {
     // as long as the state: a step's next state, a run's scratch
     spare: Vec<i32>,
 }
+
+/// Equal sites have the same card, ground and state; what a step or a run has left in the spare list is no part of a site.
+impl PartialEq for Site {
+    fn eq(&self, other: &Site) -> bool {
+        self.card == other.card && self.ground == other.ground && self.state == other.state
+    }
+}
+
+impl Eq for Site {}
 
 impl Site {
     /// A site with the given state. Refused where the card, a length or a value is wrong.

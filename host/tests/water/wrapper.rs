@@ -85,6 +85,24 @@ fn a_row_too_far_north() {
     six_cells().height(0, 2);
 }
 
+/// What a step or a run leaves behind in the spare list is no part of a site.
+#[test]
+fn a_site_that_moved_equals_its_sheet_read_back() {
+    let mut site = six_cells();
+    let start = site.clone();
+    site.step().unwrap();
+    assert_ne!(site, start);
+    assert_eq!(Site::read_sheet(&site.write_sheet()).as_ref(), Ok(&site));
+    assert_eq!(site.run().reason, None);
+    assert_eq!(Site::read_sheet(&site.write_sheet()).as_ref(), Ok(&site));
+    // each of the three parts counts
+    let (card, ground, state) = (site.card(), site.ground().to_vec(), site.state().to_vec());
+    assert_eq!(Site::new(card, ground.clone(), state.clone()).as_ref(), Ok(&site));
+    assert_ne!(Site::new(Card { steps: 6, ..card }, ground.clone(), state.clone()).as_ref(), Ok(&site));
+    assert_ne!(Site::new(card, vec![1; 6], state).as_ref(), Ok(&site));
+    assert_ne!(Site::new(card, ground, start.state().to_vec()).as_ref(), Ok(&site));
+}
+
 #[test]
 fn a_run_in_slices_ends_as_a_whole_run() {
     let mut stopped = 0;
@@ -103,7 +121,7 @@ fn a_run_in_slices_ends_as_a_whole_run() {
             ControlFlow::Continue(())
         });
         assert_eq!(joined, tally);
-        assert_eq!(sliced.state(), whole.state());
+        assert_eq!(sliced, whole);
         stopped += u32::from(tally.reason.is_some());
     });
     println!("slices: {stopped} runs were stopped on their way");
