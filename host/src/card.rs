@@ -1,4 +1,5 @@
-//! How long a site's lists are, from its card.
+//! How long a site's lists are, from its card. A host may ask before the card is checked: on the 64-bit machines that the library is
+//! compiled for the products hold any columns and rows, and a sum that would be too large is `usize::MAX`.
 
 use crate::raw::Card;
 
@@ -23,7 +24,7 @@ impl Card {
 
     /// How many words a state has: heights, eastward velocities, northward velocities.
     pub fn state_length(&self) -> usize {
-        self.cells() + self.eastward_faces() + self.northward_faces()
+        self.cells().saturating_add(self.eastward_faces()).saturating_add(self.northward_faces())
     }
 
     /// How many bytes the site's sheet has.
@@ -33,6 +34,6 @@ impl Card {
     /// assert_eq!(card.sheet_size(), 63);
     /// ```
     pub fn sheet_size(&self) -> usize {
-        SHEET_HEAD + 4 * (self.cells() + self.state_length())
+        self.cells().saturating_add(self.state_length()).saturating_mul(4).saturating_add(SHEET_HEAD)
     }
 }

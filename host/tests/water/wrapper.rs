@@ -33,6 +33,22 @@ fn every_refusal_has_its_number() {
     }
 }
 
+/// Document 01's lengths, for cards in range and far out of it: what is too much for a length is the largest one.
+#[test]
+fn the_lengths_of_any_card() {
+    let sizes = [0, 1, 2, 128, 129, 65_536, 1 << 31, u32::MAX];
+    for (columns, rows) in sizes.iter().flat_map(|&columns| sizes.map(|rows| (columns, rows))) {
+        let card = Card { columns, rows, ..Card::default() };
+        let (columns, rows) = (u128::from(columns), u128::from(rows));
+        let length = |exact: u128| usize::try_from(exact).unwrap_or(usize::MAX);
+        assert_eq!(card.cells(), length(columns * rows));
+        assert_eq!(card.eastward_faces(), length((columns + 1) * rows));
+        assert_eq!(card.northward_faces(), length(columns * (rows + 1)));
+        assert_eq!(card.state_length(), length(3 * columns * rows + columns + rows));
+        assert_eq!(card.sheet_size(), length(19 + 16 * columns * rows + 4 * columns + 4 * rows));
+    }
+}
+
 #[test]
 fn a_site_is_made_exactly_where_the_checks_pass() {
     trials("site", 3_000, |rng| {
