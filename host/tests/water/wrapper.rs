@@ -1,5 +1,7 @@
 //! The safe wrapper over the calls: typed refusals with the document's numbers, and a site that owns its lists.
 
+use crate::given::Given;
+use crate::lent::hurt_length;
 use crate::model;
 use crate::trials::trials;
 use crate::wild;
@@ -51,14 +53,39 @@ fn the_lengths_of_any_card() {
 
 #[test]
 fn a_site_is_made_exactly_where_the_checks_pass() {
+    let mut given = Given::default();
     trials("site", 3_000, |rng| {
         let site = wild::any(rng);
         let made = Site::new(site.card, site.ground.clone(), site.state.clone());
         assert_eq!(number(&made), model::check(&site.site()));
-        let heights = site.state[..site.state.len() / 3].to_vec();
-        // whatever the card says, nothing of its size is believed before it is checked
-        drop(Site::still(site.card, site.ground, &heights));
+        given.count(number(&made));
     });
+    given.assert_often("site", &[0, 1, 2, 3], 40);
+}
+
+/// Heights of the right length and of wrong ones; the model gets them with a velocity of 0 on each face.
+#[test]
+fn a_still_site_is_made_exactly_where_the_checks_pass() {
+    let mut given = Given::default();
+    trials("still site", 3_000, |rng| {
+        let mut site = wild::any(rng);
+        // whatever the card says, nothing of its sizes is believed before it is checked
+        let sizes = Card { columns: site.card.columns.min(128), rows: site.card.rows.min(128), ..site.card };
+        let mut heights = site.state.clone();
+        heights.resize(model::cells(&sizes), 0);
+        if rng.percent(20) {
+            hurt_length(rng, &mut heights);
+        }
+        let made = Site::still(site.card, site.ground.clone(), &heights);
+        let faces = model::state_length(&sizes) - model::cells(&sizes);
+        site.state = [heights, vec![0; faces]].concat();
+        assert_eq!(number(&made), model::check(&site.site()));
+        given.count(number(&made));
+        if let Ok(made) = made {
+            assert_eq!((made.card(), made.ground(), made.state()), (site.card, &site.ground[..], &site.state[..]));
+        }
+    });
+    given.assert_often("still site", &[0, 1, 2, 3], 40);
 }
 
 #[test]
