@@ -74,7 +74,6 @@ fn depth(rng: &mut Rng, site: &Wild) -> i32 {
         26 => 50_000_000,
         _ => rng.scaled(1, 50_000_000) as i32,
     }
-    .min(if kept == 50_000_000 { i32::MAX } else { 50_000_001 })
 }
 
 fn hurt_register(rng: &mut Rng, card: &Card, chambers: &mut [Chamber]) {
