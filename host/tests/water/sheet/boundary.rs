@@ -15,17 +15,8 @@ fn filled(columns: u32, rows: u32) -> Wild {
         site.ground[k] = rng.pick(&[-50_000_000, -1, 0, 1, 256, 50_000_000]);
         site.state[k] = rng.pick(&[0, 1, 255, 65_536, 16_777_216, 50_000_000]);
     }
-    for j in 0..rows {
-        for i in 1..columns {
-            let place = site.east(i, j);
-            site.state[place] = rng.pick(&[-20_000_000, -1, -256, 0, 20_000_000]);
-        }
-    }
-    for j in 1..rows {
-        for i in 0..columns {
-            let place = site.north(i, j);
-            site.state[place] = rng.pick(&[-20_000_000, -1, -256, 0, 20_000_000]);
-        }
+    for place in site.inner_faces() {
+        site.state[place] = rng.pick(&[-20_000_000, -1, -256, 0, 20_000_000]);
     }
     site
 }

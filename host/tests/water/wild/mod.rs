@@ -37,6 +37,14 @@ impl Wild {
         model::cells(&self.card) + ((self.card.columns + 1) * self.card.rows + j * self.card.columns + i) as usize
     }
 
+    /// The places in the state of the velocities that may be other than 0, eastward ones first.
+    pub fn inner_faces(&self) -> Vec<usize> {
+        let Card { columns, rows, .. } = self.card;
+        let eastward = (0..rows).flat_map(|j| (1..columns).map(move |i| self.east(i, j)));
+        let northward = (1..rows).flat_map(|j| (0..columns).map(move |i| self.north(i, j)));
+        eastward.chain(northward).collect()
+    }
+
     pub fn turned(&self, turn: &model::Turn) -> Wild {
         Wild { card: (turn.card)(self.card), ground: (turn.ground)(&self.site()), state: (turn.state)(&self.site()) }
     }
@@ -147,17 +155,8 @@ fn tempered(rng: &mut Rng, card: Card) -> Wild {
         10 => rng.scaled(1, SPEED),
         _ => SPEED,
     };
-    for j in 0..card.rows {
-        for i in 1..card.columns {
-            let place = site.east(i, j);
-            site.state[place] = edged(rng, -speed, speed) as i32;
-        }
-    }
-    for j in 1..card.rows {
-        for i in 0..card.columns {
-            let place = site.north(i, j);
-            site.state[place] = edged(rng, -speed, speed) as i32;
-        }
+    for place in site.inner_faces() {
+        site.state[place] = edged(rng, -speed, speed) as i32;
     }
     site
 }
