@@ -1,11 +1,10 @@
-//! The step on random sites, on nonsense, and on the largest sites.
+//! The step on random sites and on nonsense.
 
 use crate::given::Given;
 use crate::lent::room;
 use crate::rng::Rng;
 use crate::trials::trials;
-use crate::wild::{self, Wild};
-use crate::{library, model};
+use crate::{library, wild};
 use water::raw::Card;
 
 #[test]
@@ -47,30 +46,4 @@ fn nonsense() {
         given.count(library::step(rng, card, &ground, &state, &mut next));
     });
     println!("step of nonsense: {given:?}");
-}
-
-/// The largest sites, with every word at random within its range.
-#[test]
-fn the_largest_sites() {
-    let mut given = Given::default();
-    trials("largest", 6, |rng| {
-        let card = Card { columns: 128, rows: 128, dx: 2_000_000, dy: 3_000_000, dt: 10, steps: 1 };
-        let mut site = Wild::empty(card);
-        for k in 0..site.ground.len() {
-            site.ground[k] = rng.between(-1_000_000, 1_000_000) as i32;
-            site.state[k] = rng.between(0, 3_000_000) as i32;
-        }
-        for j in 0..128 {
-            for i in 1..128 {
-                let (east, north) = (site.east(i, j), site.north(j, i));
-                site.state[east] = rng.between(-4_000_000, 4_000_000) as i32;
-                site.state[north] = rng.between(-4_000_000, 4_000_000) as i32;
-            }
-        }
-        let mut next = vec![-7; site.state.len()];
-        given.count(library::step(rng, card, &site.ground, &site.state, &mut next));
-        let (columns, rows) = (128, 128);
-        assert!((0..rows).all(|j| (0..columns).all(|i| model::within_step_limit(&site.site(), i, j))));
-    });
-    given.assert_often("largest sites", &[0], 1);
 }
