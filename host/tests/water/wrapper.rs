@@ -3,7 +3,7 @@
 use crate::given::Given;
 use crate::lent::hurt_length;
 use crate::model;
-use crate::trials::trials;
+use crate::trials::{single, trials};
 use crate::wild;
 use std::ops::ControlFlow;
 use water::{calls, Card, Chamber, Refusal, Site, Tally, Window};
@@ -148,7 +148,7 @@ fn a_site_that_moved_equals_its_sheet_read_back() {
 
 #[test]
 fn a_run_in_slices_ends_as_a_whole_run() {
-    let mut stopped = 0;
+    let (mut stopped, mut finished) = (0, 0);
     trials("slices", 1_500, |rng| {
         let start = wild::good(rng);
         let card = Card { steps: rng.below(60) as u32, ..start.card };
@@ -165,9 +165,11 @@ fn a_run_in_slices_ends_as_a_whole_run() {
         });
         assert_eq!(joined, tally);
         assert_eq!(sliced, whole);
-        stopped += u32::from(tally.reason.is_some());
+        stopped += u32::from(tally.reason.is_some() && tally.steps > 0);
+        finished += u32::from(tally.reason.is_none() && tally.steps > slice);
     });
-    println!("slices: {stopped} runs were stopped on their way");
+    println!("slices: {stopped} runs were stopped on their way, {finished} did more than a slice and finished");
+    assert!(single() || (stopped >= 100 && finished >= 100));
 }
 
 #[test]

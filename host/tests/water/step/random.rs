@@ -4,7 +4,7 @@ use crate::given::Given;
 use crate::lent::room;
 use crate::rng::Rng;
 use crate::trials::trials;
-use crate::{library, wild};
+use crate::{library, model, wild};
 use water::raw::Card;
 
 #[test]
@@ -19,7 +19,7 @@ fn random_sites() {
     given.assert_often("step", &[0, 1, 2, 3, 4, 5, 7], 40);
 }
 
-/// Words, lengths and cards without any sense.
+/// Cards, lengths and words without any sense; a few are good by chance.
 #[test]
 fn nonsense() {
     let mut given = Given::default();
@@ -37,13 +37,16 @@ fn nonsense() {
             dt: odd(rng, 0, 1_001),
             steps: odd(rng, 0, 10_001),
         };
-        let words = |rng: &mut Rng| -> Vec<i32> {
-            let length = rng.pick(&[0, 1, 2, 4, 5, 9, 16, 17]);
-            let small = rng.between(32, 63) as u32;
-            (0..length).map(|_| (rng.next() as i64 >> small) as i32).collect()
+        let words = |rng: &mut Rng, right: usize| -> Vec<i32> {
+            let length = if rng.percent(80) { right } else { rng.pick(&[0, 1, 2, 4, 5, 9, 16, 17]) };
+            let (small, nought) = (rng.between(32, 63) as u32, rng.pick(&[0, 50, 100]));
+            (0..length).map(|_| if rng.percent(nought) { 0 } else { (rng.next() as i64 >> small) as i32 }).collect()
         };
-        let (ground, state, mut next) = (words(rng), words(rng), words(rng));
+        // lists of what the card asks for, if it asks for little
+        let sizes = Card { columns: card.columns.min(2), rows: card.rows.min(2), ..card };
+        let (cells, length) = (model::cells(&sizes), model::state_length(&sizes));
+        let (ground, state, mut next) = (words(rng, cells), words(rng, length), words(rng, length));
         given.count(library::step(rng, card, &ground, &state, &mut next));
     });
-    println!("step of nonsense: {given:?}");
+    given.assert_some("step of nonsense", &[0, 1, 2, 3], 40);
 }
