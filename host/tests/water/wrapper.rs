@@ -70,7 +70,7 @@ fn a_still_site_is_made_exactly_where_the_checks_pass() {
     trials("still site", 3_000, |rng| {
         let mut site = wild::any(rng);
         // whatever the card says, nothing of its sizes is believed before it is checked
-        let sizes = Card { columns: site.card.columns.min(128), rows: site.card.rows.min(128), ..site.card };
+        let sizes = wild::bounded(&site.card);
         let mut heights = site.state.clone();
         heights.resize(model::cells(&sizes), 0);
         if rng.percent(20) {

@@ -29,8 +29,8 @@ fn register(rng: &mut Rng, card: &Card) -> Vec<Chamber> {
         10..=19 => rng.between(20, 120),
         _ => rng.between(1, 12),
     };
-    let (columns, rows) = (card.columns.min(128), card.rows.min(128));
-    (0..count).map(|_| Chamber { x: place(rng, card.dx, columns), y: place(rng, card.dy, rows) }).collect()
+    let Card { columns, rows, dx, dy, .. } = wild::bounded(card);
+    (0..count).map(|_| Chamber { x: place(rng, dx, columns), y: place(rng, dy, rows) }).collect()
 }
 
 /// An edge drawn by a finger: on a chamber, one float beside it, a fraction beside it, far off, or odd.

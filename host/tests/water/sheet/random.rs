@@ -13,7 +13,7 @@ fn random_sites_written() {
     let mut given = Given::default();
     trials("write", 20_000, |rng| {
         let site = wild::any(rng);
-        let right = if site.card.columns <= 128 && site.card.rows <= 128 { model::sheet_size(&site.card) } else { 100 };
+        let right = model::sheet_size(&wild::bounded(&site.card));
         let room = match rng.below(8) {
             0 => right - 1,
             1 => rng.between(0, right as i64) as usize,

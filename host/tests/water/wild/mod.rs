@@ -84,6 +84,11 @@ pub fn any(rng: &mut Rng) -> Wild {
 
 // ---- cards
 
+/// The card with at most 128 columns and rows, so that lists of its lengths can be made whatever a hurt card says.
+pub fn bounded(card: &Card) -> Card {
+    Card { columns: card.columns.min(128), rows: card.rows.min(128), ..*card }
+}
+
 fn size(rng: &mut Rng) -> (u32, u32) {
     let most = match rng.below(2_000) {
         0 => return (128, 128),
