@@ -70,7 +70,7 @@ pub fn good(rng: &mut Rng) -> Wild {
     site
 }
 
-/// A site of which a third are hurt, in one way or in two.
+/// A site, hurt in a third of the cases, in one way or in two.
 pub fn any(rng: &mut Rng) -> Wild {
     let mut site = good(rng);
     if rng.percent(35) {
