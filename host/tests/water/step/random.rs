@@ -19,7 +19,7 @@ fn random_sites() {
     given.assert_often("step", &[0, 1, 2, 3, 4, 5, 7], 40);
 }
 
-/// Cards, lengths and words without any sense; a few are good by chance.
+/// Cards, lengths and words without any sense; some are good by chance.
 #[test]
 fn nonsense() {
     let mut given = Given::default();
