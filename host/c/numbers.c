@@ -269,7 +269,7 @@ static void largest(void) {
         state[k] = 1000000 + k;
     }
     for (int k = 0; k < 1001; k++) {
-        chambers[k].x = 128000 * (int64_t)(k % 1001);
+        chambers[k].x = 128000 * (int64_t)k;
         chambers[k].y = 1000 * (int64_t)k;
     }
     const int32_t *g = LEND(ground);
@@ -294,6 +294,31 @@ static void largest(void) {
     hand_back();
 }
 
+/* A length of 0 allows any pointer, and none at all. */
+static void no_pointers(void) {
+    static const WaterCard none = {0, 0, 0, 0, 0, 0};
+    static const int32_t state[9] = {2000000, 1000000, 0, 0, 0, 0, 0, 0, 0};
+    const WaterWindow all = {-1, -1, 3e6, 3e6};
+    EXPECT(water_step(card, NULL, 0, NULL, 0, NULL, 0) == 2);
+    WaterTally tally = water_run(card, NULL, 0, NULL, 0, NULL, 0);
+    EXPECT(tally.steps == 0 && tally.reason == 2 && tally.top == 0);
+    WaterHeard heard = water_read_sheet(NULL, 0, NULL, 0, NULL, 0);
+    EXPECT(heard.number == 9 && memcmp(&heard.card, &none, sizeof none) == 0);
+    WaterWrote wrote = water_write_sheet(card, NULL, 0, NULL, 0, NULL, 0);
+    EXPECT(wrote.number == 2 && wrote.size == 0);
+    wrote = water_write_sheet(card, flat, 2, state, 9, NULL, 0);
+    EXPECT(wrote.number == 8 && wrote.size == 0);
+    WaterFound found = water_search(card, NULL, 0, NULL, 0, NULL, 0, all, 0, NULL, 0);
+    EXPECT(found.number == 2 && found.count == 0);
+    found = water_search(card, flat, 2, state, 9, NULL, 0, all, 0, NULL, 0);
+    EXPECT(found.number == 0 && found.count == 0);
+    found = water_search_lists(card, NULL, 0, NULL, 0, NULL, 0, NULL, 0, all, 0, NULL, 0);
+    EXPECT(found.number == 2 && found.count == 0);
+    found = water_search_lists(card, flat, 2, state, 9, NULL, 0, NULL, 0, all, 0, NULL, 0);
+    EXPECT(found.number == 0 && found.count == 0);
+    EXPECT(water_depth_text(5, NULL, 0) == 0);
+}
+
 int main(void) {
     for (fenced = 0; fenced <= 1; fenced++) {
         steps();
@@ -307,9 +332,7 @@ int main(void) {
         texts();
         largest();
     }
-    /* empty lists, with no pointer at all */
-    EXPECT(water_step(card, NULL, 0, NULL, 0, NULL, 0) == 2);
-    EXPECT(water_depth_text(5, NULL, 0) == 0);
+    no_pointers();
     printf("numbers.c: %d facts hold, %d do not\n", passed, failed);
     return failed != 0;
 }

@@ -1,4 +1,4 @@
-//! Makes the sheets in examples/, each by the rule that examples/README.md gives. Run from host/:
+//! Makes the sheets in examples/; examples/README.md says what to see in each. Run from host/:
 //!
 //!     cargo run --release --example make_sheets -- ../examples
 

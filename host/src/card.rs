@@ -1,4 +1,5 @@
-//! How long a site's lists are, from its card.
+//! How long a site's lists are, from its card. A host may ask before the card is checked, so that nothing here can overflow: a
+//! product of any columns and rows fits the 64 bits that the library is compiled for, and sums are bounded.
 
 use crate::raw::Card;
 
@@ -21,18 +22,19 @@ impl Card {
         self.columns as usize * (self.rows as usize + 1)
     }
 
-    /// How many words a state has: heights, eastward velocities, northward velocities.
+    /// How many words a state has: heights, eastward velocities, northward velocities. `usize::MAX` if the card is so far out of
+    /// range that there are more.
     pub fn state_length(&self) -> usize {
-        self.cells() + self.eastward_faces() + self.northward_faces()
+        self.cells().saturating_add(self.eastward_faces()).saturating_add(self.northward_faces())
     }
 
-    /// How many bytes the site's sheet has.
+    /// How many bytes the site's sheet has; `usize::MAX` if there are more.
     ///
     /// ```
     /// let card = water::Card { columns: 2, rows: 1, ..Default::default() };
     /// assert_eq!(card.sheet_size(), 63);
     /// ```
     pub fn sheet_size(&self) -> usize {
-        SHEET_HEAD + 4 * (self.cells() + self.state_length())
+        self.cells().saturating_add(self.state_length()).saturating_mul(4).saturating_add(SHEET_HEAD)
     }
 }

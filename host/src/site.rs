@@ -18,7 +18,7 @@ use std::ops::ControlFlow;
 /// assert_eq!(site.depth_text(0, 0), "180 cm");
 /// # Ok::<(), water::Refusal>(())
 /// ```
-#[derive(Clone, Debug, PartialEq, Eq)]
+#[derive(Clone, Debug)]
 pub struct Site {
     card: Card,
     ground: Vec<i32>,
@@ -26,6 +26,15 @@ pub struct Site {
     // as long as the state: a step's next state, a run's scratch
     spare: Vec<i32>,
 }
+
+/// Equal sites have the same card, ground and state; what a step or a run has left in the spare list is no part of a site.
+impl PartialEq for Site {
+    fn eq(&self, other: &Site) -> bool {
+        self.card == other.card && self.ground == other.ground && self.state == other.state
+    }
+}
+
+impl Eq for Site {}
 
 impl Site {
     /// A site with the given state. Refused where the card, a length or a value is wrong.
@@ -202,12 +211,21 @@ impl Site {
     }
 
     /// The height of the cell in a column, counted from the west, and a row, counted from the south.
+    ///
+    /// # Panics
+    ///
+    /// If the site has no such column or row.
     pub fn height(&self, column: u32, row: u32) -> i32 {
         assert!(column < self.card.columns, "column {column} of {}", self.card.columns);
-        self.state[row as usize * self.card.columns as usize + column as usize]
+        assert!(row < self.card.rows, "row {row} of {}", self.card.rows);
+        self.heights()[row as usize * self.card.columns as usize + column as usize]
     }
 
     /// The depth text of one cell.
+    ///
+    /// # Panics
+    ///
+    /// If the site has no such column or row.
     pub fn depth_text(&self, column: u32, row: u32) -> String {
         calls::depth_text(self.height(column, row), &mut [0; 7]).expect("a kept height has a text").to_string()
     }

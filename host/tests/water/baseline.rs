@@ -33,6 +33,7 @@ fn steps_and_runs() {
 
 #[test]
 fn searches_and_sheets() {
+    let (mut searched, mut written, mut read) = (Given::default(), Given::default(), Given::default());
     trials("plain searches", 3_000, |rng| {
         let site = wild::any(rng);
         let width = i64::from(site.card.dx.min(20_000_001)) * i64::from(site.card.columns.min(129));
@@ -40,28 +41,34 @@ fn searches_and_sheets() {
             (0..rng.below(20)).map(|_| Chamber { x: rng.between(0, width), y: rng.between(-1, 400_000) }).collect();
         let edge = |rng: &mut crate::rng::Rng| rng.between(-1, width) as f64 + rng.pick(&[0.0, 0.5, f64::NAN]);
         let window = Window { west: 0.0, south: -1.0, east: edge(rng), north: 1e9 };
-        let (depth, room) = (rng.pick(&[0, 1, 1_000_000, -1]), rng.below(20) as usize);
+        let (depth, places) = (rng.pick(&[0, 1, 1_000_000, -1]), rng.below(20) as usize);
         let (xs, ys): (Vec<i64>, Vec<i64>) = chambers.iter().map(|chamber| (chamber.x, chamber.y)).unzip();
-        let (mut found, mut lists, mut expected) = (vec![7; room], vec![7; room], vec![7; room]);
+        let (mut found, mut lists, mut expected) = (vec![7; places], vec![7; places], vec![7; places]);
         let answer = model::search(site.card, &site.ground, &site.state, &chambers, window, depth, &mut expected);
         assert_eq!(plain::search(site.card, &site.ground, &site.state, &chambers, window, depth, &mut found), answer);
         assert_eq!(plain::search_lists(site.card, &site.ground, &site.state, &xs, &ys, window, depth, &mut lists), answer);
         assert!(found == expected && lists == expected);
+        searched.count(answer.number);
 
         let bytes = rng.between(0, 3_000) as usize;
         let (mut sheet, mut expected) = (vec![7; bytes], vec![7; bytes]);
         let wrote = plain::write_sheet(site.card, &site.ground, &site.state, &mut sheet);
         assert_eq!(wrote, model::write_sheet(site.card, &site.ground, &site.state, &mut expected));
         assert!(sheet == expected);
+        written.count(wrote.number);
         sheet.truncate(wrote.size as usize);
         if !sheet.is_empty() && rng.percent(50) {
             let place = rng.below(sheet.len() as u64) as usize;
             sheet[place] ^= 1 << rng.below(8);
         }
-        let lists = (vec![1; site.ground.len()], vec![2; site.state.len()]);
+        let lists = (room(rng, site.ground.len()), room(rng, site.state.len()));
         let (mut ours, mut expected) = (lists.clone(), lists);
         let heard = plain::read_sheet(&sheet, &mut ours.0, &mut ours.1);
         assert_eq!(heard, model::read_sheet(&sheet, &mut expected.0, &mut expected.1));
         assert!(ours == expected);
+        read.count(heard.number);
     });
+    searched.assert_often("plain searches", &[0, 1, 2, 3, 8], 60);
+    written.assert_often("plain sheets written", &[0, 1, 2, 3, 8], 60);
+    read.assert_often("plain sheets read", &[0, 1, 2, 3, 9], 400);
 }

@@ -11,16 +11,21 @@ impl Given {
         self.0[number as usize] += 1;
     }
 
-    /// Each of these numbers in at least one case of so many, no other at all.
-    pub fn assert_often(&self, what: &str, numbers: &[u32], one_in: u64) {
+    /// Each of these numbers in at least one case of so many.
+    pub fn assert_some(&self, what: &str, numbers: &[u32], one_in: u64) {
         println!("{what}: how often 0 to 9 were given: {:?}", self.0);
         let all: u64 = self.0.iter().sum();
-        for (number, &times) in self.0.iter().enumerate() {
-            if numbers.contains(&(number as u32)) {
-                assert!(single() || times * one_in >= all, "{what}: {number} was given in only {times} of {all} cases");
-            } else {
-                assert_eq!(times, 0, "{what}: {number} is never given");
-            }
+        for &number in numbers {
+            let times = self.0[number as usize];
+            assert!(single() || times * one_in >= all, "{what}: {number} was given in only {times} of {all} cases");
+        }
+    }
+
+    /// Each of these numbers in at least one case of so many, no other at all.
+    pub fn assert_often(&self, what: &str, numbers: &[u32], one_in: u64) {
+        self.assert_some(what, numbers, one_in);
+        for number in (0..10).filter(|number| !numbers.contains(number)) {
+            assert_eq!(self.0[number as usize], 0, "{what}: {number} is never given");
         }
     }
 }

@@ -1,5 +1,5 @@
-//! A list as a host lends it, fenced: one end of it touches a page that no program may read or write, and the rest of its own pages
-//! is filled with a pattern that must still stand after the call.
+//! A list as a host lends it, fenced: one end of it touches a page that no program may read or write, and up to 1,024 bytes at its
+//! other end bear a pattern that must still stand after the call.
 
 use crate::rng::Rng;
 use std::cell::RefCell;
@@ -45,6 +45,8 @@ impl Map {
     }
 
     fn new(size: usize) -> Map {
+        // Safety, here and below: no pointer leaves its map, which has a fence, `size` bytes and a fence, stays mapped for good and
+        // is one list's alone.
         unsafe {
             let low_fence = mmap(std::ptr::null_mut(), size + 2 * FENCE, NO_ACCESS, PRIVATE_ANONYMOUS, -1, 0) as *mut u8;
             assert!(low_fence as isize != -1, "no memory for a lent list");
@@ -82,7 +84,7 @@ impl<T: Copy + PartialEq + Debug> Lent<T> {
         lent
     }
 
-    /// The bytes before and behind the list that bear the pattern.
+    /// The bytes before and behind the list that bear the pattern: none on the side of the fence.
     fn around(&self) -> ((*mut u8, usize), (*mut u8, usize)) {
         let end = self.start + self.length * std::mem::size_of::<T>();
         let (before, behind) = (self.start.min(1_024), (self.map.size - end).min(1_024));

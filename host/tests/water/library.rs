@@ -1,5 +1,6 @@
-//! Each call of the library on fenced lists, beside the model: both get the same input, and every answer, every element of every
-//! lent list and all memory beside them is compared. Each function returns the answer that both gave.
+//! Each call of the library on fenced lists, beside the model: both get the same input, and every answer and every element of every
+//! lent list is compared. A call that leaves a list at one end meets a fence; one that writes within 1,024 bytes of the other end
+//! spoils a pattern. Each function returns the answer that both gave.
 
 use crate::lent::Lent;
 use crate::model;
@@ -8,6 +9,7 @@ use water::raw::{self, Card, Chamber, Found, Heard, Tally, Window, Wrote};
 
 pub fn step(rng: &mut Rng, card: Card, ground: &[i32], state: &[i32], next: &mut [i32]) -> u32 {
     let (g, s, n) = (Lent::new(rng, "ground", ground), Lent::new(rng, "state", state), Lent::new(rng, "next", next));
+    // Safety, here and below: each pointer comes with its own list's length, and no two lists share memory.
     let number = unsafe { raw::water_step(card, g.pointer(), g.length(), s.pointer(), s.length(), n.pointer(), n.length()) };
     let expected = model::step(card, ground, state, next);
     assert_eq!(number, expected, "step of {card:?}");

@@ -2,7 +2,7 @@
 //!
 //! `cargo test --release` runs it all (host/check does so after it has made the archive). Variables:
 //! `WATER_LONG=10` tries ten times as many cases; `WATER_SEED=n` tries others; `WATER_CASE=n` tries case n of each test alone.
-//! Random cases print their number when they fail. A call that reads or writes outside a list that it was lent meets a fence and
+//! Random cases print their number when they fail. A call that reads or writes beyond the fenced end of a list that it was lent
 //! ends the whole program with SIGSEGV; with `--test-threads=1` the last test named is the one that was stopped.
 
 mod model;

@@ -6,7 +6,7 @@
 use crate::model;
 use crate::numbers::first_sheet;
 use crate::rng::Rng;
-use crate::trials::trials;
+use crate::trials::{single, trials};
 use crate::wild::{self, Wild};
 use std::io::Write;
 use std::path::{Path, PathBuf};
@@ -169,7 +169,7 @@ fn more_than_32_columns_or_rows() {
 
 #[test]
 fn random_sheets() {
-    let mut refused = 0;
+    let (mut played, mut refused) = (0, 0);
     trials("player", 150, |rng| {
         let site = wild::good(rng);
         let mut sheet = sheet_of(&site);
@@ -177,9 +177,12 @@ fn random_sheets() {
             let place = rng.below(sheet.len() as u64) as usize;
             sheet[place] ^= 1 << rng.below(8);
         }
-        refused += u32::from(assert_plays(&sheet).starts_with(b"refused"));
+        let print = assert_plays(&sheet);
+        played += u32::from(print.starts_with(b"steps"));
+        refused += u32::from(print.starts_with(b"refused"));
     });
-    println!("player: {refused} random sheets were refused");
+    println!("player: {played} random sheets were played, {refused} were refused");
+    assert!(single() || (played >= 20 && refused >= 20));
 }
 
 #[test]

@@ -2,7 +2,7 @@
 
 use crate::library;
 use crate::rng::Rng;
-use crate::trials::trials;
+use crate::trials::{single, trials};
 
 /// One text in a scratch of this length, filled with bytes that no text has.
 fn text(rng: &mut Rng, height: i32, length: usize) -> Vec<u8> {
@@ -51,6 +51,7 @@ fn random_heights() {
         written += u64::from(!text(rng, height, length).is_empty());
     });
     println!("text: {written} texts were written");
+    assert!(single() || written >= 5_000);
 }
 
 /// Seven bytes are always enough, and the longest text needs them all.

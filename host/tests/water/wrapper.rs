@@ -1,7 +1,9 @@
 //! The safe wrapper over the calls: typed refusals with the document's numbers, and a site that owns its lists.
 
+use crate::given::Given;
+use crate::lent::hurt_length;
 use crate::model;
-use crate::trials::trials;
+use crate::trials::{single, trials};
 use crate::wild;
 use std::ops::ControlFlow;
 use water::{calls, Card, Chamber, Refusal, Site, Tally, Window};
@@ -33,16 +35,57 @@ fn every_refusal_has_its_number() {
     }
 }
 
+/// Document 01's lengths, for cards in range and far out of it: what is too much for a length is the largest one.
+#[test]
+fn the_lengths_of_any_card() {
+    let sizes = [0, 1, 2, 128, 129, 65_536, 1 << 31, u32::MAX];
+    for (columns, rows) in sizes.iter().flat_map(|&columns| sizes.map(|rows| (columns, rows))) {
+        let card = Card { columns, rows, ..Card::default() };
+        let (columns, rows) = (u128::from(columns), u128::from(rows));
+        let length = |exact: u128| usize::try_from(exact).unwrap_or(usize::MAX);
+        assert_eq!(card.cells(), length(columns * rows));
+        assert_eq!(card.eastward_faces(), length((columns + 1) * rows));
+        assert_eq!(card.northward_faces(), length(columns * (rows + 1)));
+        assert_eq!(card.state_length(), length(3 * columns * rows + columns + rows));
+        assert_eq!(card.sheet_size(), length(19 + 16 * columns * rows + 4 * columns + 4 * rows));
+    }
+}
+
 #[test]
 fn a_site_is_made_exactly_where_the_checks_pass() {
+    let mut given = Given::default();
     trials("site", 3_000, |rng| {
         let site = wild::any(rng);
         let made = Site::new(site.card, site.ground.clone(), site.state.clone());
         assert_eq!(number(&made), model::check(&site.site()));
-        let heights = site.state[..site.state.len() / 3].to_vec();
-        // whatever the card says, nothing of its size is believed before it is checked
-        drop(Site::still(site.card, site.ground, &heights));
+        given.count(number(&made));
     });
+    given.assert_often("site", &[0, 1, 2, 3], 40);
+}
+
+/// Heights of the right length and of wrong ones; the model gets them with a velocity of 0 on each face.
+#[test]
+fn a_still_site_is_made_exactly_where_the_checks_pass() {
+    let mut given = Given::default();
+    trials("still site", 3_000, |rng| {
+        let mut site = wild::any(rng);
+        // whatever the card says, nothing of its sizes is believed before it is checked
+        let sizes = wild::bounded(&site.card);
+        let mut heights = site.state.clone();
+        heights.resize(model::cells(&sizes), 0);
+        if rng.percent(20) {
+            hurt_length(rng, &mut heights);
+        }
+        let made = Site::still(site.card, site.ground.clone(), &heights);
+        let faces = model::state_length(&sizes) - model::cells(&sizes);
+        site.state = [heights, vec![0; faces]].concat();
+        assert_eq!(number(&made), model::check(&site.site()));
+        given.count(number(&made));
+        if let Ok(made) = made {
+            assert_eq!((made.card(), made.ground(), made.state()), (site.card, &site.ground[..], &site.state[..]));
+        }
+    });
+    given.assert_often("still site", &[0, 1, 2, 3], 40);
 }
 
 #[test]
@@ -60,9 +103,52 @@ fn a_site_steps_as_the_model() {
     });
 }
 
+/// A site of 3 columns and 2 rows, whose heights are 1 to 6.
+fn six_cells() -> Site {
+    let card = Card { columns: 3, rows: 2, dx: 1_000_000, dy: 1_000_000, dt: 100, steps: 5 };
+    Site::still(card, vec![0; 6], &[1, 2, 3, 4, 5, 6]).unwrap()
+}
+
+#[test]
+fn a_cell_by_column_and_row() {
+    let site = six_cells();
+    assert_eq!((site.height(0, 0), site.height(2, 0), site.height(0, 1), site.height(2, 1)), (1, 3, 4, 6));
+    assert_eq!(site.depth_text(2, 1), "<1 cm");
+}
+
+#[test]
+#[should_panic(expected = "column 3 of 3")]
+fn a_column_too_far_east() {
+    six_cells().height(3, 0);
+}
+
+#[test]
+#[should_panic(expected = "row 2 of 2")]
+fn a_row_too_far_north() {
+    six_cells().height(0, 2);
+}
+
+/// What a step or a run leaves behind in the spare list is no part of a site.
+#[test]
+fn a_site_that_moved_equals_its_sheet_read_back() {
+    let mut site = six_cells();
+    let start = site.clone();
+    site.step().unwrap();
+    assert_ne!(site, start);
+    assert_eq!(Site::read_sheet(&site.write_sheet()).as_ref(), Ok(&site));
+    assert_eq!(site.run().reason, None);
+    assert_eq!(Site::read_sheet(&site.write_sheet()).as_ref(), Ok(&site));
+    // each of the three parts counts
+    let (card, ground, state) = (site.card(), site.ground().to_vec(), site.state().to_vec());
+    assert_eq!(Site::new(card, ground.clone(), state.clone()).as_ref(), Ok(&site));
+    assert_ne!(Site::new(Card { steps: 6, ..card }, ground.clone(), state.clone()).as_ref(), Ok(&site));
+    assert_ne!(Site::new(card, vec![1; 6], state).as_ref(), Ok(&site));
+    assert_ne!(Site::new(card, ground, start.state().to_vec()).as_ref(), Ok(&site));
+}
+
 #[test]
 fn a_run_in_slices_ends_as_a_whole_run() {
-    let mut stopped = 0;
+    let (mut stopped, mut finished) = (0, 0);
     trials("slices", 1_500, |rng| {
         let start = wild::good(rng);
         let card = Card { steps: rng.below(60) as u32, ..start.card };
@@ -78,10 +164,12 @@ fn a_run_in_slices_ends_as_a_whole_run() {
             ControlFlow::Continue(())
         });
         assert_eq!(joined, tally);
-        assert_eq!(sliced.state(), whole.state());
-        stopped += u32::from(tally.reason.is_some());
+        assert_eq!(sliced, whole);
+        stopped += u32::from(tally.reason.is_some() && tally.steps > 0);
+        finished += u32::from(tally.reason.is_none() && tally.steps > slice);
     });
-    println!("slices: {stopped} runs were stopped on their way");
+    println!("slices: {stopped} runs were stopped on their way, {finished} did more than a slice and finished");
+    assert!(single() || (stopped >= 100 && finished >= 100));
 }
 
 #[test]

@@ -15,7 +15,7 @@ pub fn transfer(dt: u32, d: u32, height_k: i128, height_l: i128, u: i128) -> i12
 }
 
 /// Step limit: dt·((|west|+|east|)·dy + (|south|+|north|)·dx) ≤ 1000·dx·dy.
-pub fn within_step_limit(site: &Site, i: usize, j: usize) -> bool {
+fn within_step_limit(site: &Site, i: usize, j: usize) -> bool {
     let Card { dx, dy, dt, .. } = site.card;
     let (dx, dy, dt) = (i128::from(dx), i128::from(dy), i128::from(dt));
     let west_east = site.east(i, j).abs() + site.east(i + 1, j).abs();

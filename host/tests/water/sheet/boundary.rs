@@ -1,48 +1,10 @@
-//! Sheets of every size, with every byte damaged, of every length; lists and rooms of every length; refusals in their order.
+//! Sheets with every byte damaged and of every length, rooms of every length, refusals in their order.
 
-use super::{read, set_length_field, sheet_of};
+use super::{filled, read, set_length_field, sheet_of};
 use crate::given::Given;
 use crate::rng::Rng;
-use crate::wild::Wild;
 use crate::{library, model};
 use water::raw::{Card, Heard, Wrote};
-
-/// A site of the given size with words of every kind in it.
-fn filled(columns: u32, rows: u32) -> Wild {
-    let rng = &mut Rng::new(u64::from(columns * 1_000 + rows));
-    let mut site = Wild::empty(Card { columns, rows, dx: 100_000, dy: 20_000_000, dt: 1_000, steps: 10_000 });
-    for k in 0..site.ground.len() {
-        site.ground[k] = rng.pick(&[-50_000_000, -1, 0, 1, 256, 50_000_000]);
-        site.state[k] = rng.pick(&[0, 1, 255, 65_536, 16_777_216, 50_000_000]);
-    }
-    for j in 0..rows {
-        for i in 1..columns {
-            let place = site.east(i, j);
-            site.state[place] = rng.pick(&[-20_000_000, -1, -256, 0, 20_000_000]);
-        }
-    }
-    for j in 1..rows {
-        for i in 0..columns {
-            let place = site.north(i, j);
-            site.state[place] = rng.pick(&[-20_000_000, -1, -256, 0, 20_000_000]);
-        }
-    }
-    site
-}
-
-#[test]
-fn the_smallest_and_the_largest() {
-    for (columns, rows, size) in [(1, 1, 43), (1, 128, 2_583), (128, 1, 2_583), (128, 128, 263_187), (2, 1, 63), (32, 32, 16_659)]
-    {
-        let rng = &mut Rng::new(1);
-        let site = filled(columns, rows);
-        let sheet = sheet_of(rng, &site);
-        assert_eq!(sheet.len(), size);
-        let (heard, back) = read(rng, &sheet, columns, rows);
-        assert_eq!(heard, Heard { number: 0, card: site.card });
-        assert_eq!(back, site);
-    }
-}
 
 /// Each byte of a good sheet set to each of its other 255 values; of larger sheets, each bit of each byte.
 #[test]
@@ -84,20 +46,6 @@ fn every_truncation() {
             assert_eq!(read(rng, &sheet, columns, rows).0.number, 9);
             set_length_field(&mut sheet);
             assert_eq!(read(rng, &sheet, columns, rows).0.number, 2);
-        }
-    }
-}
-
-#[test]
-fn lists_of_the_wrong_length() {
-    let rng = &mut Rng::new(9);
-    let site = filled(3, 2);
-    let sheet = sheet_of(rng, &site);
-    for ground in [0, 1, 5, 6, 7, 12] {
-        for state in [0, 22, 23, 24, 46] {
-            let heard = library::read_sheet(rng, &sheet, &mut vec![1; ground], &mut vec![2; state]);
-            let right = ground == 6 && state == 23;
-            assert_eq!(heard.number, if right { 0 } else { 2 });
         }
     }
 }

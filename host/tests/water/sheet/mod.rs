@@ -2,11 +2,26 @@
 
 mod boundary;
 mod random;
+mod sizes;
 
 use crate::rng::Rng;
 use crate::wild::Wild;
 use crate::{library, model};
 use water::raw::{Card, Heard, Wrote};
+
+/// A site of the given size with words of every kind in it.
+fn filled(columns: u32, rows: u32) -> Wild {
+    let rng = &mut Rng::new(u64::from(columns * 1_000 + rows));
+    let mut site = Wild::empty(Card { columns, rows, dx: 100_000, dy: 20_000_000, dt: 1_000, steps: 10_000 });
+    for k in 0..site.ground.len() {
+        site.ground[k] = rng.pick(&[-50_000_000, -1, 0, 1, 256, 50_000_000]);
+        site.state[k] = rng.pick(&[0, 1, 255, 65_536, 16_777_216, 50_000_000]);
+    }
+    for place in site.inner_faces() {
+        site.state[place] = rng.pick(&[-20_000_000, -1, -256, 0, 20_000_000]);
+    }
+    site
+}
 
 /// The sheet of a good site, written by the library.
 fn sheet_of(rng: &mut Rng, site: &Wild) -> Vec<u8> {

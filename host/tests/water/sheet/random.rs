@@ -13,7 +13,7 @@ fn random_sites_written() {
     let mut given = Given::default();
     trials("write", 20_000, |rng| {
         let site = wild::any(rng);
-        let right = if site.card.columns <= 128 && site.card.rows <= 128 { model::sheet_size(&site.card) } else { 100 };
+        let right = model::sheet_size(&wild::bounded(&site.card));
         let room = match rng.below(8) {
             0 => right - 1,
             1 => rng.between(0, right as i64) as usize,
@@ -108,15 +108,24 @@ fn hurt_sheet(rng: &mut Rng, sheet: &mut Vec<u8>) {
     }
 }
 
+/// Bytes without sense, some of them behind a header that has one.
 #[test]
 fn bytes_without_sense() {
+    let mut given = Given::default();
     trials("bytes without sense", 5_000, |rng| {
-        let mut sheet: Vec<u8> = (0..rng.below(90)).map(|_| (rng.next() >> rng.below(64)) as u8).collect();
+        let length = if rng.percent(50) { rng.pick(&[43, 63]) } else { rng.below(90) };
+        let mut sheet: Vec<u8> = (0..length).map(|_| (rng.next() >> rng.below(64)) as u8).collect();
         if sheet.len() >= 5 && rng.percent(70) {
             set_length_field(&mut sheet);
             sheet[4] = 1;
         }
-        let (ground, state) = (rng.below(4) as usize, rng.below(12) as usize);
-        library::read_sheet(rng, &sheet, &mut vec![5; ground], &mut vec![5; state]);
+        if sheet.len() >= 19 && rng.percent(50) {
+            // 1×1 or 2×1 cells of 1 m, steps of 100 ms
+            sheet[5..18].copy_from_slice(&[rng.pick(&[1, 2]), 1, 0, 15, 66, 64, 0, 15, 66, 64, 0, 100, 0]);
+        }
+        let any = (rng.below(4) as usize, rng.below(12) as usize);
+        let (ground, state) = rng.pick(&[(1, 5), (2, 9), any]);
+        given.count(library::read_sheet(rng, &sheet, &mut vec![5; ground], &mut vec![5; state]).number);
     });
+    given.assert_some("bytes without sense", &[1, 2, 3, 9], 100);
 }

@@ -1,18 +1,28 @@
-//! Refusals 1 to 7 of the step, each from both sides of its boundary, and the lowest of several.
+//! Refusals 1 to 5 and 7 of the step, each from both sides of its boundary, and the lowest of several. 6 has no input: the step
+//! limit keeps every own share at or above 0.
 
 use crate::library;
+use crate::model::TURNS;
 use crate::rng::Rng;
 use crate::wild::Wild;
 use water::raw::Card;
 
+/// The number of a step into a list of so many words.
+fn number_into(site: &Wild, words: usize) -> u32 {
+    library::step(&mut Rng::new(1), site.card, &site.ground, &site.state, &mut vec![-7; words])
+}
+
+fn good() -> Wild {
+    let mut site = Wild::empty(Card { columns: 3, rows: 2, dx: 1_000_000, dy: 2_000_000, dt: 10, steps: 3 });
+    site.state[..6].copy_from_slice(&[1_000, 2_000, 3_000, 4_000, 5_000, 6_000]);
+    site
+}
+
 /// The number of a step of a good 3×2 site with one thing changed.
 fn number_with(change: impl Fn(&mut Wild)) -> u32 {
-    let card = Card { columns: 3, rows: 2, dx: 1_000_000, dy: 2_000_000, dt: 10, steps: 3 };
-    let mut site = Wild::empty(card);
-    site.state[..6].copy_from_slice(&[1_000, 2_000, 3_000, 4_000, 5_000, 6_000]);
+    let mut site = good();
     change(&mut site);
-    let mut next = vec![-7; site.state.len()];
-    library::step(&mut Rng::new(1), site.card, &site.ground, &site.state, &mut next)
+    number_into(&site, site.state.len())
 }
 
 #[test]
@@ -42,6 +52,25 @@ fn every_range_on_both_sides() {
     }
 }
 
+/// Refusal 2: each list one word short and one word long, and state and next state together.
+#[test]
+fn every_length_on_both_sides() {
+    let number = |ground: usize, state: usize, next: usize| {
+        let mut site = good();
+        site.ground.resize(ground, 0);
+        site.state.resize(state, 0);
+        number_into(&site, next)
+    };
+    assert_eq!(number(6, 23, 23), 0);
+    for (cells, words) in [(5, 22), (7, 24)] {
+        assert_eq!(number(cells, 23, 23), 2);
+        assert_eq!(number(6, words, 23), 2);
+        assert_eq!(number(6, 23, words), 2);
+        assert_eq!(number(6, words, words), 2);
+    }
+}
+
+/// Refusal 3.
 #[test]
 fn every_word_of_a_site_on_both_sides() {
     let words = Wild::empty(Card { columns: 3, rows: 2, ..Card::default() }).state.len();
@@ -142,4 +171,35 @@ fn step_with(site: &Wild, place: usize, velocity: i32) -> u32 {
     let mut state = site.state.clone();
     state[place] = velocity;
     library::step(&mut Rng::new(place as u64), site.card, &site.ground, &state, &mut vec![0; state.len()])
+}
+
+/// The number of a step of two cells side by side and of each turn of them, u being the velocity between them.
+fn number_of_pair(sides: u32, ground: [i32; 2], heights: [i32; 2], u: i32) -> u32 {
+    let mut site = Wild::empty(Card { columns: 2, rows: 1, dx: sides, dy: sides, dt: 1_000, steps: 0 });
+    let middle = site.east(1, 0);
+    site.ground.copy_from_slice(&ground);
+    site.state[..2].copy_from_slice(&heights);
+    site.state[middle] = u;
+    let number = number_into(&site, 9);
+    for turn in &TURNS {
+        assert_eq!(number_into(&site.turned(turn), 9), number, "{}", turn.name);
+    }
+    number
+}
+
+/// Refusal 5: 1,000 flow in; the surface is level afterwards, so that the velocity is out of the way.
+#[test]
+fn a_new_height_on_both_sides() {
+    for (height, number) in [(49_999_000, 0), (49_999_001, 5)] {
+        assert_eq!(number_of_pair(1_000_000, [49_001_000, 0], [1_000_000, height], 1_000), number);
+    }
+}
+
+/// Refusal 7: with gravity's own number for a side and a step of a second, the slope is the rise.
+#[test]
+fn a_new_velocity_on_both_sides() {
+    for (rise, number) in [(20_000_000, 0), (20_000_001, 7)] {
+        assert_eq!(number_of_pair(9_806_650, [0, rise], [1, 1], 0), number);
+        assert_eq!(number_of_pair(9_806_650, [0, -rise], [1, 1], 0), number);
+    }
 }

@@ -1,4 +1,5 @@
-//! The step: random and hostile sites, and each refusal at its boundary.
+//! The step: random and hostile sites, each refusal at its boundary, and the sizes at which it works in another way.
 
 mod boundary;
 mod random;
+mod sizes;

@@ -1,11 +1,10 @@
-//! The step on random sites, on nonsense, and on the largest sites.
+//! The step on random sites and on nonsense.
 
 use crate::given::Given;
 use crate::lent::room;
 use crate::rng::Rng;
 use crate::trials::trials;
-use crate::wild::{self, Wild};
-use crate::{library, model};
+use crate::{library, model, wild};
 use water::raw::Card;
 
 #[test]
@@ -20,7 +19,7 @@ fn random_sites() {
     given.assert_often("step", &[0, 1, 2, 3, 4, 5, 7], 40);
 }
 
-/// Words, lengths and cards without any sense.
+/// Cards, lengths and words without any sense; some are good by chance.
 #[test]
 fn nonsense() {
     let mut given = Given::default();
@@ -38,39 +37,16 @@ fn nonsense() {
             dt: odd(rng, 0, 1_001),
             steps: odd(rng, 0, 10_001),
         };
-        let words = |rng: &mut Rng| -> Vec<i32> {
-            let length = rng.pick(&[0, 1, 2, 4, 5, 9, 16, 17]);
-            let small = rng.between(32, 63) as u32;
-            (0..length).map(|_| (rng.next() as i64 >> small) as i32).collect()
+        let words = |rng: &mut Rng, right: usize| -> Vec<i32> {
+            let length = if rng.percent(80) { right } else { rng.pick(&[0, 1, 2, 4, 5, 9, 16, 17]) };
+            let (small, nought) = (rng.between(32, 63) as u32, rng.pick(&[0, 50, 100]));
+            (0..length).map(|_| if rng.percent(nought) { 0 } else { (rng.next() as i64 >> small) as i32 }).collect()
         };
-        let (ground, state, mut next) = (words(rng), words(rng), words(rng));
+        // lists of what the card asks for, if it asks for little
+        let sizes = Card { columns: card.columns.min(2), rows: card.rows.min(2), ..card };
+        let (cells, length) = (model::cells(&sizes), model::state_length(&sizes));
+        let (ground, state, mut next) = (words(rng, cells), words(rng, length), words(rng, length));
         given.count(library::step(rng, card, &ground, &state, &mut next));
     });
-    println!("step of nonsense: {given:?}");
-}
-
-/// The largest sites, with every word at random within its range.
-#[test]
-fn the_largest_sites() {
-    let mut given = Given::default();
-    trials("largest", 6, |rng| {
-        let card = Card { columns: 128, rows: 128, dx: 2_000_000, dy: 3_000_000, dt: 10, steps: 1 };
-        let mut site = Wild::empty(card);
-        for k in 0..site.ground.len() {
-            site.ground[k] = rng.between(-1_000_000, 1_000_000) as i32;
-            site.state[k] = rng.between(0, 3_000_000) as i32;
-        }
-        for j in 0..128 {
-            for i in 1..128 {
-                let (east, north) = (site.east(i, j), site.north(j, i));
-                site.state[east] = rng.between(-4_000_000, 4_000_000) as i32;
-                site.state[north] = rng.between(-4_000_000, 4_000_000) as i32;
-            }
-        }
-        let mut next = vec![-7; site.state.len()];
-        given.count(library::step(rng, card, &site.ground, &site.state, &mut next));
-        let (columns, rows) = (128, 128);
-        assert!((0..rows).all(|j| (0..columns).all(|i| model::within_step_limit(&site.site(), i, j))));
-    });
-    given.assert_often("largest sites", &[0], 1);
+    given.assert_some("step of nonsense", &[0, 1, 2, 3], 40);
 }

@@ -1,6 +1,6 @@
 //! Sites with one thing made wrong that refusals 1 to 3 speak of.
 
-use super::Wild;
+use super::{bounded, Wild};
 use crate::lent::hurt_length;
 use crate::model;
 use crate::rng::Rng;
@@ -29,7 +29,7 @@ fn hurt_card(rng: &mut Rng, card: &mut Card) {
 }
 
 fn hurt_value(rng: &mut Rng, site: &mut Wild) {
-    let cells = model::cells(&Card { columns: site.card.columns.min(128), rows: site.card.rows.min(128), ..site.card });
+    let cells = model::cells(&bounded(&site.card));
     if rng.percent(30) {
         if let Some(word) = random_place(rng, &mut site.ground) {
             *word = rng.pick(&[-50_000_001, 50_000_001, i32::MIN, i32::MAX]);

@@ -37,6 +37,14 @@ impl Wild {
         model::cells(&self.card) + ((self.card.columns + 1) * self.card.rows + j * self.card.columns + i) as usize
     }
 
+    /// The places in the state of the velocities that may be other than 0, eastward ones first.
+    pub fn inner_faces(&self) -> Vec<usize> {
+        let Card { columns, rows, .. } = self.card;
+        let eastward = (0..rows).flat_map(|j| (1..columns).map(move |i| self.east(i, j)));
+        let northward = (1..rows).flat_map(|j| (0..columns).map(move |i| self.north(i, j)));
+        eastward.chain(northward).collect()
+    }
+
     pub fn turned(&self, turn: &model::Turn) -> Wild {
         Wild { card: (turn.card)(self.card), ground: (turn.ground)(&self.site()), state: (turn.state)(&self.site()) }
     }
@@ -62,7 +70,7 @@ pub fn good(rng: &mut Rng) -> Wild {
     site
 }
 
-/// A site of which a third are hurt, in one way or in two.
+/// A site, hurt in a third of the cases, in one way or in two.
 pub fn any(rng: &mut Rng) -> Wild {
     let mut site = good(rng);
     if rng.percent(35) {
@@ -75,6 +83,11 @@ pub fn any(rng: &mut Rng) -> Wild {
 }
 
 // ---- cards
+
+/// The card with at most 128 columns and rows, so that lists of its lengths can be made whatever a hurt card says.
+pub fn bounded(card: &Card) -> Card {
+    Card { columns: card.columns.min(128), rows: card.rows.min(128), ..*card }
+}
 
 fn size(rng: &mut Rng) -> (u32, u32) {
     let most = match rng.below(2_000) {
@@ -147,17 +160,8 @@ fn tempered(rng: &mut Rng, card: Card) -> Wild {
         10 => rng.scaled(1, SPEED),
         _ => SPEED,
     };
-    for j in 0..card.rows {
-        for i in 1..card.columns {
-            let place = site.east(i, j);
-            site.state[place] = edged(rng, -speed, speed) as i32;
-        }
-    }
-    for j in 1..card.rows {
-        for i in 0..card.columns {
-            let place = site.north(i, j);
-            site.state[place] = edged(rng, -speed, speed) as i32;
-        }
+    for place in site.inner_faces() {
+        site.state[place] = edged(rng, -speed, speed) as i32;
     }
     site
 }
