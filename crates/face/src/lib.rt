@@ -104,7 +104,7 @@ fn positive(flow: i32) -> i32
 }
 
 // Own share: what stays in the face's cell.
-fn share(f: Face) -> i32
+pub fn own_share(f: Face) -> i32
     requires { ⌜ FaceFits f ⌝ }
     ensures { λ r. ⌜ r ≡ step.ownShare f ⌝ }
 {
@@ -113,13 +113,6 @@ fn share(f: Face) -> i32
     let along = positive(out_ahead(f)) + positive(out_behind(f));
     let across = positive(out_above(f)) + positive(out_below(f));
     k + l - (along + across)
-}
-
-pub fn own_share(f: Face) -> i64
-    requires { ⌜ FaceFits f ⌝ }
-    ensures { λ r. ⌜ r ≡ step.ownShare f ⌝ }
-{
-    share(f) as i64
 }
 
 // Flow in, times the velocity of the parallel face that it comes from.
@@ -135,7 +128,7 @@ fn carried(f: Face) -> i64
     ensures { λ r. ⌜ r ≡ step.carried f ⌝ }
 {
     let u = f.u;
-    let kept = (share(f) as i64) * (u as i64);
+    let kept = (own_share(f) as i64) * (u as i64);
     let along = brought(out_ahead(f), f.uAhead) + brought(out_behind(f), f.uBehind);
     let across = brought(out_above(f), f.uAbove) + brought(out_below(f), f.uBelow);
     kept + (along + across)

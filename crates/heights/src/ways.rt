@@ -1,7 +1,8 @@
 // The two ways that faces point: eastward (`east`) and northward. Face (i, j) lies at the west side of cell (i, j), or at its south side.
 ghost use mathlib.Core.Path.{_≡_};
 ghost use mathlib.Core.Bool.{true};
-ghost use Prim.Native.Nat.{suc, _+_, _*_, _≤_, _<_};
+ghost use Prim.Native.Nat.{_≤_, _<_};
+ghost use Rattle.laws.specs.Facts.{Ranges};
 ghost use Rattle.heights.specs.Ways as Ways;
 use rules::Card;
 
@@ -29,7 +30,7 @@ pub fn up(card: Card, east: bool) -> usize
 
 // Where it starts in a state.
 pub fn first(card: Card, east: bool) -> usize
-    requires { ⌜ card .rows * card .columns + card .rows * suc (card .columns) < 18446744073709551616 ⌝ }
+    requires { ⌜ Ranges card ⌝ }
     ensures { λ r. ⌜ r ≡ Ways.first card east ⌝ }
 {
     let columns = card.columns as usize;

@@ -7,23 +7,23 @@ use Rattle.face.proofs.carried.Statement.{statement}
 use Rattle.face.proofs.carried.Tie as tie
 
 -- the places: after own share, after the sum along the face's direction, and after the sum across
-abbrev start : tie.After-share → tie.Start
+abbrev start : tie.After-own-share → tie.Start
 start c = c .before .before
 
-abbrev first : tie.After-brought2 → tie.After-share
+abbrev first : tie.After-brought2 → tie.After-own-share
 first c = c .before .before .before .before .before .before
 
 abbrev second : tie.After-brought4 → tie.After-brought2
 second c = c .before .before .before .before .before .before
 
 -- the operations, in the code's order
-abbrev own : tie.After-share → Node w64
-own c = cast (result (c .share .ensures) (share-within (start c .pre)) tt) tt
+abbrev own : tie.After-own-share → Node w64
+own c = cast (result (c .own-share .ensures) (share-within (start c .pre)) tt) tt
 
-abbrev u : tie.After-share → Node w64
+abbrev u : tie.After-own-share → Node w64
 u c = cast (int (start c .pre .u) tt) tt
 
-abbrev kept : tie.After-share → Node w64
+abbrev kept : tie.After-own-share → Node w64
 kept c = mul (own c) (u c) tt
 
 abbrev along : tie.After-brought2 → Node w64
@@ -48,8 +48,8 @@ entered c = add (along (second c)) (across c) tt
 abbrev all : tie.After-brought4 → Node w64
 all c = add (kept (first (second c))) (entered c) tt
 
-share-requires : tie.Need-share-requires
-share-requires c κs = c .before .pre
+own-share-requires : tie.Need-own-share-requires
+own-share-requires c κs = c .before .pre
 
 cast-kept : tie.Need-cast-kept
 cast-kept c = fits (own c)
@@ -104,7 +104,7 @@ pub carried-spec : {M : Type 1} → statement M
 carried-spec =
     tie.close
     (tie.spec
-    share-requires
+    own-share-requires
     cast-kept
     cast-kept-2
     mul-kept

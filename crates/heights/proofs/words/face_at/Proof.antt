@@ -1,14 +1,12 @@
 use mathlib.Core.Path.{_∙_}
-use native.Mathlib.Omega.{arith}
 use borrow.Author.Needs.{needs}
 use Rattle.laws.specs.Signed.{word-is}
-use Rattle.laws.specs.Places.{room}
 use Rattle.heights.proofs.Pointing.{face-in, face-read}
 use Rattle.heights.proofs.words.face_at.Statement.{statement}
 use Rattle.heights.proofs.words.face_at.Tie as tie
 
 first-requires : tie.Need-first-requires
-first-requires c κs = omega (arith, room _ (c .pre .long))
+first-requires c κs = c .pre .card
 
 across-requires : tie.Need-across-requires
 across-requires c κs = search needs
