@@ -23,7 +23,7 @@ use Rattle.promises.specs.NeverInTheMiddle.{Ends, ends}
 use Rattle.promises.specs.StepsWanted.{wanting}
 use Rattle.promises.specs.Slices.{joined, in-slices}
 -- of each public call: any two outcomes that its contract allows are equal, refused calls too
-pub use Rattle.promises.specs.OneOutcome.{one-step, one-run, one-search, one-reading, one-writing, one-text}
+pub use Rattle.promises.specs.OneOutcome.{one-step, one-run, one-search, one-row-search, one-reading, one-writing, one-text}
 -- and a refused call leaves every list as it was lent
 pub use Rattle.promises.specs.Refused.{step-refused, run-refused, scratch-zero, search-refused, no-count, read-refused, write-refused}
 -- of the sheet: write, then read, gives the site back; read, then write, gives the bytes back; each site has one sheet
