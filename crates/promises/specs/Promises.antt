@@ -28,8 +28,9 @@ pub use Rattle.promises.specs.OneOutcome.{one-step, one-run, one-search,
 pub use Rattle.promises.specs.Refused.{step-refused, run-refused, scratch-zero, search-refused, no-count, read-refused, write-refused}
 -- of the sheet: write, then read, gives the site back; read, then write, gives the bytes back; each site has one sheet
 pub use Rattle.promises.specs.Sheets.{written-reads, read-is-sheet, one-site, one-sheet, write-then-read, read-then-write}
--- the search's list is sound, complete and rising; every chamber is compared exactly; a window turned over lists nothing; -0.0 is 0
-pub use Rattle.promises.specs.Searches.{finds, inside-exactly, compared-exactly, lists-nothing, minus-zero-answer, minus-zero-list}
+-- the search's list is sound, complete and rising, and as long as lent; at 8 the count is the count needed; every chamber is compared exactly;
+-- a window turned over lists nothing; -0.0 is 0
+pub use Rattle.promises.specs.Searches.{finds, as-long-as-lent, count-at-8, inside-exactly, compared-exactly, lists-nothing, minus-zero-answer, minus-zero-list}
 
 -- ---- Demand 3
 
