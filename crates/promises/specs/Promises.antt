@@ -26,6 +26,8 @@ use Rattle.promises.specs.Slices.{joined, in-slices}
 pub use Rattle.promises.specs.OneOutcome.{one-step, one-run, one-search, one-row-search, one-reading, one-writing, one-text}
 -- and a refused call leaves every list as it was lent
 pub use Rattle.promises.specs.Refused.{step-refused, run-refused, scratch-zero, search-refused, no-count, read-refused, write-refused}
+-- the depth text's part is empty, and its scratch as lent, exactly if the height is out of range or the scratch is shorter than the text
+pub use Rattle.promises.specs.Texts.{text-refused, text-refused-only}
 -- of the sheet: write, then read, gives the site back; read, then write, gives the bytes back; each site has one sheet
 pub use Rattle.promises.specs.Sheets.{written-reads, read-is-sheet, one-site, one-sheet, write-then-read, read-then-write}
 -- the search's list is sound, complete and rising, and as long as lent; at 8 the count is the count needed; every chamber is compared exactly;

@@ -1,4 +1,5 @@
 -- A refused call leaves every list as it was lent: document 01's sentences about refusals, each of them read off the definitions of the calls.
+-- Texts.antt has the depth text's.
 use Prim.Native.Nat.{ℕ, zero, suc, _<_}
 use mathlib.Core.Path.{_≡_, refl, ap}
 use mathlib.Core.List.{List}
