@@ -1,4 +1,4 @@
--- What follows from the rules. Read this file first: it states each promise, and takes the proof from the file that it names in `use`.
+-- What follows from the rules. Read this file first: it states each promise, or names the file that states it.
 -- Nothing is assumed but what a promise says before its last arrow.
 use Prim.Native.Nat.{ℕ, _+_}
 use mathlib.Core.Path.{_≡_}
