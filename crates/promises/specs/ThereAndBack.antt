@@ -13,11 +13,11 @@ use mir.Syntax.{w32}
 use mir.Val.{SFits}
 use Rattle.rules.specs.declared.Card.{Card}
 use Rattle.rules.specs.Site.{cells, stateLength, cardFits, lengthsFit, valuesFit, readGround, readState, check}
-use Rattle.rules.specs.Sheet.{bytesOf, numberIn, wordsBytes, wordsIn, sheetSize, header, sheetOf, cardIn, groundIn, stateIn, headFits, sheetLengthsFit, readNumber}
+use Rattle.rules.specs.Sheet.{Bytes, bytesOf, numberIn, wordsBytes, wordsIn, sheetSize, header, sheetOf, cardIn, groundIn, stateIn, headFits, sheetLengthsFit, readNumber}
 use Rattle.laws.specs.Checks.{apart, together}
 use Rattle.laws.specs.Facts.{Fits}
 use Rattle.laws.specs.Exact.{sfits}
-use Rattle.laws.specs.Bytes.{Bytes, bytes-drop, number-bytes, bytes-number}
+use Rattle.laws.specs.Bytes.{bytes-drop, number-bytes, bytes-number}
 use Rattle.laws.specs.Words.{Words, length-words, words-read, words-write}
 use Rattle.laws.specs.Sheets.{size-words, length-sheet, Read, length-ground-in, length-state-in}
 
