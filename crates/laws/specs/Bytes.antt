@@ -7,11 +7,7 @@ use native.Mathlib.Numerals.{add-one}
 use native.Mathlib.Omega.{arith}
 use lib.ListN.{length, take, drop, getD, length-append}
 use lib.Seq.{take-suc, getD-at, getD-drop}
-use Rattle.rules.specs.Sheet.{bytesOf, numberIn}
-
--- every element is a byte
-pub record Bytes (l : List ℕ) : Type 0 where
-  pub below : (i : ℕ) → getD l i 0 < 256
+use Rattle.rules.specs.Sheet.{Bytes, bytesOf, numberIn}
 
 pub bytes-drop : (n : ℕ) (l : List ℕ) → Bytes l → Bytes (drop n l)
 bytes-drop n l b = record { below = λ i. rw (getD-drop n l i 0) (b .below (n + i)) }

@@ -11,8 +11,8 @@ use lib.Seq.{take-suc, take-add, drop-drop, drop-at}
 use mir.Syntax.{w32}
 use mir.Val.{SFits, toZ, ofZ}
 use mir.ValLaws.{toZ-ofZ, ofZ-toZ, ofZ-fits, toZ-fits}
-use Rattle.rules.specs.Sheet.{bytesOf, numberIn, bitsOf, valueOf, wordsBytes, wordsIn}
-use Rattle.laws.specs.Bytes.{Bytes, bytes-drop, length-bytes, number-bytes, bytes-number, number-lt}
+use Rattle.rules.specs.Sheet.{Bytes, bytesOf, numberIn, bitsOf, valueOf, wordsBytes, wordsIn}
+use Rattle.laws.specs.Bytes.{bytes-drop, length-bytes, number-bytes, bytes-number, number-lt}
 
 -- ---- a word and its bits, which are the machine's
 

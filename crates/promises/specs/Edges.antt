@@ -8,7 +8,7 @@ use native.Mathlib.Omega.{arith}
 use lib.Dec.{T, leb, ltb, eqb, leb→le, le→leb, ltb→lt}
 use lib.IntN.{ℤ, pos, negℤ}
 use lib.Signed.{leZ}
-use lib.Ieee.{Float, nan, inf, fin, up, down, binary64, lt, le, eq, ofInt, ofBits}
+use lib.Ieee.{Float, nan, inf, fin, up, down, binary64, lt, le, eq, ofInt}
 use lib.Ieee.Exact.{HasValue}
 use lib.Ieee.Back.{round-whole}
 use lib.Ieee.Fits.{down-pos}
@@ -126,11 +126,6 @@ low-exact x n h = at-most-value x (asFloat (pos n)) n (value n h)
 
 pub high-exact : (x : Float) (n : ℕ) → n ≤ 2 ^ 53 → le (asFloat (pos n)) x ≡ atLeast x n
 high-exact x n h = at-least-value x (asFloat (pos n)) n (value n h)
-
--- as document 01 has it: a west edge of 1,000,000.25 leaves out x = 1,000,000
-quarter : atMost (ofBits binary64 0x412e848080000000) 1000000 ≡ false
-unfolding atMost ofBits
-quarter = refl
 
 -- ---- Where the low edge lies above the high one, nothing lies between
 

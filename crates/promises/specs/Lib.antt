@@ -19,3 +19,4 @@ pub mod ThereAndBack
 pub mod Sheets
 pub mod Edges
 pub mod Searches
+pub mod Texts

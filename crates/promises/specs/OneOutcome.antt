@@ -6,10 +6,11 @@ use lib.IntN.{ℤ}
 use Rattle.rules.specs.declared.Card.{Card}
 use Rattle.rules.specs.declared.Tally.{Tally}
 use Rattle.rules.specs.declared.Window.{Window}
+use Rattle.rules.specs.declared.Chamber.{Chamber}
 use Rattle.rules.specs.declared.Found.{Found}
 use Rattle.rules.specs.declared.Heard.{Heard}
 use Rattle.rules.specs.declared.Wrote.{Wrote}
-use Rattle.rules.specs.Contracts.{StepContract, RunContract, SearchContract, ReadContract, WriteContract, TextContract}
+use Rattle.rules.specs.Contracts.{StepContract, RunContract, SearchContract, RowSearchContract, ReadContract, WriteContract, TextContract}
 
 -- ---- step
 
@@ -27,6 +28,10 @@ one-run p q = (cc, cc, cc)
 pub one-search : {c : Card} {g s xs ys : List ℤ} {w : Window} {d : ℤ} {f : List ℕ} {a a′ : Found} {v v′ : List ℕ}
     → SearchContract c g s xs ys w d f a v → SearchContract c g s xs ys w d f a′ v′ → (a ≡ a′) × (v ≡ v′)
 one-search p q = (cc, cc)
+
+pub one-row-search : {c : Card} {g s : List ℤ} (row : List Chamber) {w : Window} {d : ℤ} {f : List ℕ} {a a′ : Found} {v v′ : List ℕ}
+    → RowSearchContract c g s row w d f a v → RowSearchContract c g s row w d f a′ v′ → (a ≡ a′) × (v ≡ v′)
+one-row-search row p q = one-search p q
 
 -- ---- sheet reader
 

@@ -1,4 +1,4 @@
--- What follows from the rules. Read this file first: it states each promise, and takes the proof from the file that it names in `use`.
+-- What follows from the rules. Read this file first: it states each promise, or names the file that states it.
 -- Nothing is assumed but what a promise says before its last arrow.
 use Prim.Native.Nat.{ℕ, _+_}
 use mathlib.Core.Path.{_≡_}
@@ -6,30 +6,33 @@ use mathlib.Core.List.{List}
 use lib.IntN.{ℤ}
 use lib.ListN.{length}
 use Rattle.rules.specs.declared.Card.{Card}
-use Rattle.rules.specs.Site.{check}
+use Rattle.rules.specs.Site.{check, firstRefusal}
 use Rattle.rules.specs.Step.{stepNumber, nextState}
 use Rattle.rules.specs.Run.{run}
-use Rattle.rules.specs.Calls.{runOutcome}
+use Rattle.rules.specs.Calls.{stepAnswer, runOutcome}
 use Rattle.rules.specs.Turn.{Turn, Obeys, eastWest, northSouth, swapAxes}
 use Rattle.laws.specs.Keeps.{keeps}
 use Rattle.promises.specs.Turning.{Lawful, obeys}
-use Rattle.promises.specs.Demand3.{TurnsTheRun, turns-the-run}
+use Rattle.promises.specs.Demand3.{TurnsTheRun, turns-the-run, TurnsTheCall, turns-the-call}
 use Rattle.promises.specs.TakenTwice.{GivesBack}
 use Rattle.promises.specs.EastWest as EastWest
 use Rattle.promises.specs.NorthSouth as NorthSouth
 use Rattle.promises.specs.SwapAxes as SwapAxes
-use Rattle.promises.specs.TheCall.{call-runs}
+use Rattle.promises.specs.TheCall.{call-runs, call-steps}
 use Rattle.promises.specs.NeverInTheMiddle.{Ends, ends}
 use Rattle.promises.specs.StepsWanted.{wanting}
 use Rattle.promises.specs.Slices.{joined, in-slices}
 -- of each public call: any two outcomes that its contract allows are equal, refused calls too
-pub use Rattle.promises.specs.OneOutcome.{one-step, one-run, one-search, one-reading, one-writing, one-text}
+pub use Rattle.promises.specs.OneOutcome.{one-step, one-run, one-search, one-row-search, one-reading, one-writing, one-text}
 -- and a refused call leaves every list as it was lent
 pub use Rattle.promises.specs.Refused.{step-refused, run-refused, scratch-zero, search-refused, no-count, read-refused, write-refused}
+-- the depth text's part is empty, and its scratch as lent, exactly if the height is out of range or the scratch is shorter than the text
+pub use Rattle.promises.specs.Texts.{text-refused, text-refused-only}
 -- of the sheet: write, then read, gives the site back; read, then write, gives the bytes back; each site has one sheet
 pub use Rattle.promises.specs.Sheets.{written-reads, read-is-sheet, one-site, one-sheet, write-then-read, read-then-write}
--- the search's list is sound, complete and rising; every chamber is compared exactly; a window turned over lists nothing; -0.0 is 0
-pub use Rattle.promises.specs.Searches.{finds, inside-exactly, compared-exactly, lists-nothing, minus-zero-answer, minus-zero-list}
+-- the search's list is sound, complete and rising, and as long as lent; at 8 the count is the count needed; every chamber is compared exactly;
+-- a window turned over lists nothing; -0.0 is 0
+pub use Rattle.promises.specs.Searches.{finds, as-long-as-lent, count-at-8, inside-exactly, compared-exactly, lists-nothing, minus-zero-answer, minus-zero-list}
 
 -- ---- Demand 3
 
@@ -52,13 +55,23 @@ demand3 {t} d = obeys t (lawful d)
 pub demand3-by-field : {t : Turn} → OfDocument01 t → (c : Card) (g s : List ℤ) → check c g s ≡ 0 → TurnsTheRun t c g s
 demand3-by-field {t} d = turns-the-run t (lawful d)
 
+-- and so of the public call: each site lent a scratch list as long as its state, the turned call has the same tally and leaves the state turned
+pub demand3-of-the-call : {t : Turn} → OfDocument01 t → (c : Card) (g s scratch turnedScratch : List ℤ) → check c g s ≡ 0
+    → length scratch ≡ length s → length turnedScratch ≡ length (t .state c s)
+    → TurnsTheCall t c g s scratch turnedScratch
+demand3-of-the-call {t} d = turns-the-call t (lawful d)
+
 -- a turn taken twice gives the site back
 pub taken-twice : {t : Turn} → OfDocument01 t → GivesBack t
 taken-twice eastForWest = EastWest.gives-back
 taken-twice northForSouth = NorthSouth.gives-back
 taken-twice swappedAxes = SwapAxes.gives-back
 
--- ---- The run, and so the public call
+-- ---- The step and the run, and so the public calls
+
+-- lent a next state as long as its state, the call's number is the first three checks', and else the step's own
+pub the-call-steps : (c : Card) (g s next : List ℤ) → length next ≡ length s → stepAnswer c g s next ≡ firstRefusal (check c g s) (stepNumber c g s)
+the-call-steps = call-steps
 
 -- lent a scratch list as long as its state, the call's outcome is the run
 pub the-call-runs : (c : Card) (g s scratch : List ℤ) → length scratch ≡ length s → runOutcome c g s scratch ≡ run c g s

@@ -1,27 +1,24 @@
 -- A refused call leaves every list as it was lent: document 01's sentences about refusals, each of them read off the definitions of the calls.
-use Prim.Native.Nat.{ℕ, zero, suc, _<_}
+-- Texts.antt has the depth text's.
+use Prim.Native.Nat.{ℕ, _<_}
 use mathlib.Core.Path.{_≡_, refl, ap}
 use mathlib.Core.List.{List}
-use native.Mathlib.Nat.{not-suc-le-zero}
+use native.Mathlib.Nat.{ne-of-gt}
 use lib.IntN.{ℤ, pos}
 use lib.ListN.{length, replicate}
 use Rattle.rules.specs.declared.Card.{Card}
 use Rattle.rules.specs.declared.Window.{Window}
-use Rattle.rules.specs.Site.{checkWith, ifDone}
+use Rattle.rules.specs.Site.{checkWith}
 use Rattle.rules.specs.Run.{Outcome}
 use Rattle.rules.specs.Sheet.{readNumber, noCard}
 use Rattle.rules.specs.Calls.{stepAnswer, stepNext, runOutcome, runTally, runState, runScratch, searchNumber, searchFound, searchCheck, searchAnswer, readAnswer, readGroundList, readStateList, writeNumber, writeAnswer, writeBytes}
+use Rattle.laws.specs.Outcomes.{if-done, if-refused}
 use Rattle.laws.specs.Runs.{refused-after}
-
-left : {A : Type 0} (k : ℕ) (done lent : A) → 0 < k → ifDone k done lent ≡ lent
-unfolding ifDone
-left zero done lent h = absurd (not-suc-le-zero h)
-left (suc k) done lent h = refl
 
 -- step: the next state as lent
 pub step-refused : (c : Card) (g s next : List ℤ) → 0 < stepAnswer c g s next → stepNext c g s next ≡ next
 unfolding stepNext
-step-refused c g s next h = left _ _ _ h
+step-refused c g s next h = if-refused _ _ _ (ne-of-gt h)
 
 -- run, reasons 1 to 3: steps 0, top 0, both lists as lent
 pub record RunRefused (c : Card) (g s scratch : List ℤ) : Type 0 where
@@ -33,23 +30,23 @@ pub run-refused : (c : Card) (g s scratch : List ℤ) → 0 < checkWith c g s (l
 unfolding runTally runState runScratch runOutcome
 run-refused c g s scratch h =
     let e = refused-after c g (checkWith c g s (length scratch)) s (checkWith c g s (length scratch)) h refl in
-    record { tally = ap (λ (o : Outcome). o .tally) e; state = ap (λ (o : Outcome). o .state) e; scratch-as-lent = left _ _ _ h }
+    record { tally = ap (λ (o : Outcome). o .tally) e; state = ap (λ (o : Outcome). o .state) e; scratch-as-lent = if-refused _ _ _ (ne-of-gt h) }
 
 -- otherwise scratch is all zero, for 0 steps wanted too
 pub scratch-zero : (c : Card) (g s scratch : List ℤ) → checkWith c g s (length scratch) ≡ 0 → runScratch c g s scratch ≡ replicate (length scratch) (pos 0)
-unfolding runScratch ifDone
-scratch-zero c g s scratch e = ap (λ (k : ℕ). ifDone k (replicate (length scratch) (pos 0)) scratch) e
+unfolding runScratch
+scratch-zero c g s scratch e = if-done _ _ _ e
 
 -- search: the list as lent, and for 1 to 3 the count 0
 pub search-refused : (c : Card) (g s xs ys : List ℤ) (w : Window) (depth : ℤ) (found : List ℕ) → 0 < searchNumber c g s xs ys w depth found
     → searchFound c g s xs ys w depth found ≡ found
 unfolding searchFound
-search-refused c g s xs ys w depth found h = left _ _ _ h
+search-refused c g s xs ys w depth found h = if-refused _ _ _ (ne-of-gt h)
 
 pub no-count : (c : Card) (g s xs ys : List ℤ) (w : Window) (depth : ℤ) (found : List ℕ) → 0 < searchCheck c g s xs ys w depth
     → searchAnswer c g s xs ys w depth found .count ≡ 0
 unfolding searchAnswer
-no-count c g s xs ys w depth found h = left _ _ _ h
+no-count c g s xs ys w depth found h = if-refused _ _ _ (ne-of-gt h)
 
 -- sheet reader: an all-zero card, lists as lent
 pub record ReadRefused (sheet : List ℕ) (g s : List ℤ) : Type 0 where
@@ -59,7 +56,7 @@ pub record ReadRefused (sheet : List ℕ) (g s : List ℤ) : Type 0 where
 
 pub read-refused : (sheet : List ℕ) (g s : List ℤ) → 0 < readNumber sheet (length g) (length s) → ReadRefused sheet g s
 unfolding readAnswer readGroundList readStateList
-read-refused sheet g s h = record { card = left _ _ _ h; ground = left _ _ _ h; state = left _ _ _ h }
+read-refused sheet g s h = record { card = if-refused _ _ _ (ne-of-gt h); ground = if-refused _ _ _ (ne-of-gt h); state = if-refused _ _ _ (ne-of-gt h) }
 
 -- sheet writer: size 0, bytes as lent
 pub record WriteRefused (c : Card) (g s : List ℤ) (bytes : List ℕ) : Type 0 where
@@ -68,4 +65,4 @@ pub record WriteRefused (c : Card) (g s : List ℤ) (bytes : List ℕ) : Type 0 
 
 pub write-refused : (c : Card) (g s : List ℤ) (bytes : List ℕ) → 0 < writeNumber c g s (length bytes) → WriteRefused c g s bytes
 unfolding writeAnswer writeBytes
-write-refused c g s bytes h = record { size = left _ _ _ h; bytes-as-lent = left _ _ _ h }
+write-refused c g s bytes h = record { size = if-refused _ _ _ (ne-of-gt h); bytes-as-lent = if-refused _ _ _ (ne-of-gt h) }

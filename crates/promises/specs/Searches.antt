@@ -1,27 +1,31 @@
--- Finding chambers, read off the definitions: the list that a call leaves is sound, complete and rising; every chamber is compared exactly; a window
--- turned inside out lists nothing; and -0.0 is 0.
+-- Finding chambers, read off the definitions: the list that a call leaves is sound, complete and rising, and as long as lent; at 8 the count is the count
+-- needed; every chamber is compared exactly; a window turned over lists nothing; and -0.0 is 0.
 use mathlib.Core.Path.{_≡_, refl, sym, _∙_, ap, ap₂, subst}
 use mathlib.Core.Bool.{Bool, true, false, cond, _&&_, and-false}
 use mathlib.Core.Logic.{_⊎_, inl, inr}
 use mathlib.Core.List.{List, [], _++_}
-use Prim.Native.Nat.{ℕ, zero, suc, _+_, _*_, _≤_, _<_, _^_}
-use native.Mathlib.Nat.{suc-ne-zero}
+use Prim.Native.Nat.{ℕ, zero, suc, _+_, _*_, _≤_, _<_, _^_, zero-le}
+use native.Mathlib.Nat.{suc-ne-zero, lt-irrefl}
 use native.Mathlib.Omega.{arith}
 use lib.Dec.{T, leb}
 use lib.IntN.{ℤ, pos, natAbs}
 use lib.Signed.{leZ}
-use lib.ListN.{length, getD, drop, List·getD-append}
+use lib.ListN.{length, getD, drop, length-append, length-drop, List·getD-append}
 use lib.Seq.{getD-append-add, getD-drop}
 use lib.Ieee.{Float, binary64, lt, le, ofBits}
+use borrow.Author.Tests.{le-leb, leb-true, leb-false}
 use Rattle.rules.specs.declared.Card.{Card}
 use Rattle.rules.specs.declared.Window.{Window}
-use Rattle.rules.specs.Site.{readState, firstRefusal, ifDone}
+use Rattle.rules.specs.Site.{cardFits, readState, firstOf, firstRefusal, ifDone}
 use Rattle.rules.specs.Search.{isFinite, edgesFinite, asFloat, between, inside, cellAlong, listed, listedAt, places, listOf, askedFits}
 use Rattle.rules.specs.Calls.{searchCheck, searchNumber, searchAnswer, searchFound}
 use Rattle.laws.specs.Facts.{card-facts}
+use Rattle.laws.specs.Outcomes.{first-passed, both-passed}
+use Rattle.laws.specs.Sheets.{passed}
 use Rattle.laws.specs.Along.{along-whole, along-high, all-along, reach-high}
 use Rattle.laws.specs.Asked.{asked-facts}
 use Rattle.laws.specs.Rising.{rising, sound, complete, places-empty}
+use Rattle.promises.specs.Refused.{search-refused}
 use Rattle.promises.specs.Edges.{atMost, atLeast, low-exact, high-exact, between-empty, zero-low, zero-high}
 
 -- ---- One chamber against the window, in exact numbers
@@ -57,12 +61,20 @@ outside w x y o over = ap₂ (inside w) (o .x-whole) (o .y-whole) ∙ go over
 
 -- ---- What a call leaves
 
--- a number 0 is 0 of the checks, and room enough
-done : (number : ℕ) (enough : Bool) → firstRefusal number (cond enough 0 8) ≡ 0 → (number ≡ 0) × (enough ≡ true)
+-- the first three checks never give 8
+checks-below-8 : (card lengths values : Bool) → firstOf card lengths values < 8
+unfolding firstOf
+checks-below-8 false l v = omega arith
+checks-below-8 true false v = omega arith
+checks-below-8 true true false = omega arith
+checks-below-8 true true true = omega arith
+
+-- so 8 is a room too short, and no refusal of the checks
+too-short : (number : ℕ) (enough : Bool) → number < 8 → firstRefusal number (cond enough 0 8) ≡ 8 → (number ≡ 0) × (enough ≡ false)
 unfolding firstRefusal
-done zero true e = (refl, refl)
-done zero false e = absurd (suc-ne-zero 7 e)
-done (suc k) enough e = absurd (suc-ne-zero k e)
+too-short zero true h e = absurd (suc-ne-zero 7 (sym e))
+too-short zero false h e = (refl, refl)
+too-short (suc k) enough h e = absurd (lt-irrefl 8 (subst (λ (n : ℕ). n < 8) e h))
 
 module _ (c : Card) (g s xs ys : List ℤ) (w : Window) (depth : ℤ) where
   abbrev isListed : ℕ → Bool
@@ -71,7 +83,10 @@ module _ (c : Card) (g s xs ys : List ℤ) (w : Window) (depth : ℤ) where
   abbrev theList : List ℕ
   theList = listOf c s w depth xs ys
 
-  -- ---- What a done call leaves
+  -- room enough, and the call is done
+  room-enough : (room : List ℕ) → searchCheck c g s xs ys w depth ≡ 0 → length theList ≤ length room → searchNumber c g s xs ys w depth room ≡ 0
+  unfolding searchNumber
+  room-enough room e h = first-passed (searchCheck c g s xs ys w depth) _ e ∙ ap (λ (b : Bool). cond b 0 8) (le-leb (length theList) (length room) h)
 
   module _ (lent : List ℕ) where
     abbrev count : ℕ
@@ -83,6 +98,13 @@ module _ (c : Card) (g s xs ys : List ℤ) (w : Window) (depth : ℤ) where
     count-is : searchCheck c g s xs ys w depth ≡ 0 → count ≡ length theList
     unfolding searchAnswer ifDone
     count-is e = rw e
+
+    -- a number 0 is 0 of the checks, and room enough
+    done : searchNumber c g s xs ys w depth lent ≡ 0 → (searchCheck c g s xs ys w depth ≡ 0) × (length theList ≤ length lent)
+    unfolding searchNumber
+    done e =
+        let b = both-passed (searchCheck c g s xs ys w depth) _ e in
+        (b .0, leb-true (length theList) (length lent) (passed (leb (length theList) (length lent)) 0 7 (b .1) .0))
 
     found-is : searchNumber c g s xs ys w depth lent ≡ 0 → searchFound c g s xs ys w depth lent ≡ theList ++ drop (length theList) lent
     unfolding searchFound ifDone
@@ -102,10 +124,9 @@ module _ (c : Card) (g s xs ys : List ℤ) (w : Window) (depth : ℤ) where
       pub rest-as-lent : (i : ℕ) → left (count + i) ≡ getD lent (count + i) 0
 
     pub finds : searchNumber c g s xs ys w depth lent ≡ 0 → Finds
-    unfolding searchNumber listOf
+    unfolding listOf
     finds e =
-        let d = done (searchCheck c g s xs ys w depth) (leb (length theList) (length lent)) e in
-        let n = count-is (d .0) in
+        let n = count-is (done e .0) in
         record {
           each-listed = λ i h.
               let k : i < length theList = subst (λ (n : ℕ). i < n) n h in
@@ -122,6 +143,38 @@ module _ (c : Card) (g s xs ys : List ℤ) (w : Window) (depth : ℤ) where
               ∙ getD-append-add theList (drop (length theList) lent) i 0
               ∙ getD-drop (length theList) lent i 0
               ∙ ap (λ (m : ℕ). getD lent (m + i) 0) (sym n);
+        }
+
+    -- done or refused, the list at exit is as long as lent
+    pub as-long-as-lent : length (searchFound c g s xs ys w depth lent) ≡ length lent
+    as-long-as-lent = go (searchNumber c g s xs ys w depth lent) refl
+      where
+        go : (k : ℕ) → searchNumber c g s xs ys w depth lent ≡ k → length (searchFound c g s xs ys w depth lent) ≡ length lent
+        go zero e = ap length (found-is e) ∙ length-append theList (drop (length theList) lent) ∙ omega (arith, length-drop (length theList) lent, done e .1)
+        go (suc k) e = ap length (search-refused c g s xs ys w depth lent (omega (arith, e)))
+
+    -- 8: the count needed, which is more than was lent and with which the call is done; the list as lent
+    pub record TooShort : Type 0 where
+      pub count-needed : count ≡ length theList
+      pub more-than-lent : length lent < count
+      pub enough : (room : List ℕ) → count ≤ length room → searchNumber c g s xs ys w depth room ≡ 0
+      pub list-as-lent : searchFound c g s xs ys w depth lent ≡ lent
+
+    checked-at-8 : searchNumber c g s xs ys w depth lent ≡ 8 → (searchCheck c g s xs ys w depth ≡ 0) × (length lent < length theList)
+    unfolding searchNumber searchCheck
+    checked-at-8 e =
+        let t = too-short (searchCheck c g s xs ys w depth) (leb (length theList) (length lent)) (checks-below-8 (cardFits c) _ _) e in
+        (t .0, leb-false (length theList) (length lent) (t .1))
+
+    pub count-at-8 : searchNumber c g s xs ys w depth lent ≡ 8 → TooShort
+    count-at-8 e =
+        let t = checked-at-8 e in
+        let n = count-is (t .0) in
+        record {
+          count-needed = n;
+          more-than-lent = omega (arith, n, t .1);
+          enough = λ room h. room-enough room (t .0) (subst (λ (m : ℕ). m ≤ length room) n h);
+          list-as-lent = search-refused c g s xs ys w depth lent (omega (arith, e));
         }
 
   -- ---- Every chamber that passes the checks is compared exactly: columns · dx and rows · dy are at most 2,560,000,000, far below 2 ^ 53
@@ -148,9 +201,27 @@ module _ (c : Card) (g s xs ys : List ℤ) (w : Window) (depth : ℤ) where
 
   -- ---- A window with west above east, or south above north, lists nothing
 
-  pub lists-nothing : searchCheck c g s xs ys w depth ≡ 0 → TurnedOver w → theList ≡ []
+  none-listed : searchCheck c g s xs ys w depth ≡ 0 → TurnedOver w → theList ≡ []
   unfolding listOf listed
-  lists-nothing e over = places-empty isListed (length xs) (λ k h. rw (outside w (getD xs k (pos 0)) (getD ys k (pos 0)) (inside-is e k h) over))
+  none-listed e over = places-empty isListed (length xs) (λ k h. rw (outside w (getD xs k (pos 0)) (getD ys k (pos 0)) (inside-is e k h) over))
+
+  -- so the call is done whatever room it is lent, with the count 0, and leaves the list as lent
+  pub record ListsNothing (lent : List ℕ) : Type 0 where
+    pub nothing-listed : theList ≡ []
+    pub answer : searchAnswer c g s xs ys w depth lent ≡ record { number = 0; count = 0 }
+    pub list-as-lent : searchFound c g s xs ys w depth lent ≡ lent
+
+  pub lists-nothing : (lent : List ℕ) → searchCheck c g s xs ys w depth ≡ 0 → TurnedOver w → ListsNothing lent
+  unfolding searchAnswer
+  lists-nothing lent e over =
+      let none = none-listed e over in
+      let number = room-enough lent e (rw none zero-le) in
+      let zero-count : count lent ≡ 0 = count-is lent e ∙ ap length none in
+      record {
+        nothing-listed = none;
+        answer = λ i. record { number = number i; count = zero-count i };
+        list-as-lent = found-is lent number ∙ ap (λ (l : List ℕ). l ++ drop (length l) lent) none;
+      }
 
 -- ---- -0.0 is 0: a window that has the one for the other gets the same answer and leaves the same list
 

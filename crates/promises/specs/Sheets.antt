@@ -11,11 +11,10 @@ use lib.Seq.{take-at}
 use borrow.Author.Tests.{le-leb}
 use Rattle.rules.specs.declared.Card.{Card}
 use Rattle.rules.specs.Site.{check, ifDone}
-use Rattle.rules.specs.Sheet.{sheetSize, sheetOf, cardIn, groundIn, stateIn, readNumber, noCard}
+use Rattle.rules.specs.Sheet.{Bytes, sheetSize, sheetOf, cardIn, groundIn, stateIn, readNumber, noCard}
 use Rattle.rules.specs.Calls.{readAnswer, readGroundList, readStateList, writeNumber, writeAnswer, writeBytes}
 use Rattle.laws.specs.Facts.{check-facts}
 use Rattle.laws.specs.Outcomes.{first-passed, both-passed, if-done}
-use Rattle.laws.specs.Bytes.{Bytes}
 use Rattle.laws.specs.Sheets.{read-facts}
 use Rattle.promises.specs.ThereAndBack.{writes-back, read-checks, card-back, ground-back, state-back, number-back, sheet-size}
 

@@ -1,4 +1,5 @@
--- What is said of the run is said of the public call: lent a scratch list as long as its state, its tally and its state at exit are the run's.
+-- What is said of the run and of the step is said of the public calls: lent a list as long as its state, a run's tally and its state at exit are the run's,
+-- and a step's number is that of the first three checks, and else the step's own.
 use Prim.Native.Nat.{ℕ}
 use mathlib.Core.Path.{_≡_, ap, _∙_}
 use mathlib.Core.List.{List}
@@ -15,7 +16,6 @@ pub call-runs : (c : Card) (g s scratch : List ℤ) → length scratch ≡ lengt
 unfolding runOutcome run
 call-runs c g s scratch e = ap (λ (k : ℕ). runAfter k c g s) (ap (checkWith c g s) e ∙ check-own c g s)
 
--- and the call of one step looks for the first three checks, and then for the step's own number
 pub call-steps : (c : Card) (g s next : List ℤ) → length next ≡ length s → stepAnswer c g s next ≡ firstRefusal (check c g s) (stepNumber c g s)
 unfolding stepAnswer
 call-steps c g s next e = ap (λ (k : ℕ). firstRefusal k (stepNumber c g s)) (ap (checkWith c g s) e ∙ check-own c g s)

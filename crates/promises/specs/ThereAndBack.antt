@@ -4,7 +4,7 @@ use mathlib.Core.Path.{_≡_, refl, sym, ap, ap₂, _∙_}
 use mathlib.Core.Bool.{Bool, true, false}
 use mathlib.Core.List.{List, [], _++_, append-assoc, append-nil}
 use native.Mathlib.Omega.{arith}
-use lib.IntN.{ℤ, pos, negsuc, natAbs}
+use lib.IntN.{ℤ, pos, natAbs}
 use lib.Dec.{ltb}
 use lib.ListN.{length, getD, take, drop, length-drop, take-append-drop}
 use lib.Seq.{drop-drop, drop-append-seam, take-all}
@@ -13,10 +13,11 @@ use mir.Syntax.{w32}
 use mir.Val.{SFits}
 use Rattle.rules.specs.declared.Card.{Card}
 use Rattle.rules.specs.Site.{cells, stateLength, cardFits, lengthsFit, valuesFit, readGround, readState, check}
-use Rattle.rules.specs.Sheet.{bytesOf, numberIn, wordsBytes, wordsIn, sheetSize, header, sheetOf, cardIn, groundIn, stateIn, headFits, sheetLengthsFit, readNumber}
+use Rattle.rules.specs.Sheet.{Bytes, bytesOf, numberIn, wordsBytes, wordsIn, sheetSize, header, sheetOf, cardIn, groundIn, stateIn, headFits, sheetLengthsFit, readNumber}
 use Rattle.laws.specs.Checks.{apart, together}
 use Rattle.laws.specs.Facts.{Fits}
-use Rattle.laws.specs.Bytes.{Bytes, bytes-drop, number-bytes, bytes-number}
+use Rattle.laws.specs.Exact.{sfits}
+use Rattle.laws.specs.Bytes.{bytes-drop, number-bytes, bytes-number}
 use Rattle.laws.specs.Words.{Words, length-words, words-read, words-write}
 use Rattle.laws.specs.Sheets.{size-words, length-sheet, Read, length-ground-in, length-state-in}
 
@@ -79,9 +80,9 @@ read-checks l n m r =
 
 -- ---- a written sheet reads back
 
+-- a ground, a height or a velocity is a word
 word : (z : ℤ) → natAbs z ≤ 50000000 → SFits w32 z
-word (pos n) h = record { sfits = omega arith }
-word (negsuc n) h = record { sfits = omega arith }
+word z h = sfits w32 (record { size = h }) tt
 
 module _ (c : Card) (g s : List ℤ) (f : Fits c g s) where
   ground-words : Words g

@@ -1,5 +1,5 @@
 -- Document 01, "The site sheet": the bytes of a site, and what is read of some bytes.
-use Prim.Native.Nat.{ℕ, zero, suc, _+_, _*_, _-_, _/_, _%_}
+use Prim.Native.Nat.{ℕ, zero, suc, _+_, _*_, _-_, _/_, _%_, _<_}
 use mathlib.Core.Bool.{Bool, cond, _&&_}
 use mathlib.Core.List.{List, [], _∷_, _++_}
 use lib.ListN.{length, getD, drop}
@@ -9,6 +9,10 @@ use Rattle.rules.specs.declared.Card.{Card}
 use Rattle.rules.specs.Site.{cells, stateLength, readGround, readState, cardFits, valuesFit, firstOf}
 
 -- ---- Numbers and words as bytes, big-endian
+
+-- the bytes given, a list of numbers: each of them is below 256
+pub record Bytes (l : List ℕ) : Type 0 where
+  pub below : (i : ℕ) → getD l i 0 < 256
 
 -- a number in k bytes, the most significant first, and the number in the first k bytes
 unfoldable pub bytesOf : (k n : ℕ) → List ℕ
