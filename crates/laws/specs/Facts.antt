@@ -3,7 +3,7 @@ use Prim.Native.Nat.{ℕ, suc, _+_, _*_, _≤_, _<_, zero-le}
 use mathlib.Core.Path.{_≡_, refl, ap, _∙_, subst}
 use mathlib.Core.Bool.{Bool, true, false, _&&_, and-assoc, and-self}
 use mathlib.Core.List.{List}
-use native.Mathlib.Nat.{mul-le-mul, suc-ne-zero}
+use native.Mathlib.Nat.{mul-le-mul}
 use native.Mathlib.Omega.{arith}
 use lib.IntN.{ℤ, pos, negsuc, natAbs}
 use lib.Signed.{leZ}
@@ -13,7 +13,7 @@ use borrow.Author.Tests.{ltb-true, ltb-false}
 use lib.Arith.{digits-lt}
 use Rattle.rules.specs.declared.Card.{Card}
 use Rattle.rules.specs.Grid.{all}
-use Rattle.rules.specs.Site.{within, sizesFit, sidesFit, timesFit, cardFits, stateLength, lengthsFit, readGround, readState, groundFits, heightFits, speedFits, isZero, groundsFit, heightsFit, velocitiesFit, wallsStill, valuesFit, firstOf, check, checkWith}
+use Rattle.rules.specs.Site.{within, sizesFit, sidesFit, timesFit, cardFits, stateLength, lengthsFit, readGround, readState, groundFits, heightFits, speedFits, groundsFit, heightsFit, velocitiesFit, wallsStill, valuesFit, firstOf, check, checkWith}
 use Rattle.laws.specs.Tests.{and-left, and-right, three-of, four-of, to-T, true-of}
 use Rattle.laws.specs.Grids.{all-at}
 use Rattle.laws.specs.Values.{grounds-flat, depths-flat, faces-flat}
@@ -99,7 +99,6 @@ pub record Fits (c : Card) (g s : List ℤ) : Type 0 where
   pub lengths : Lengths c g s
   -- by place in the list
   pub ground : (k : ℕ) → natAbs (getD g k (pos 0)) ≤ 50000000
-  pub height-low : (k : ℕ) → k < c .rows * c .columns → T (leZ (pos 0) (getD s k (pos 0)))
   pub height-high : (k : ℕ) → k < c .rows * c .columns → natAbs (getD s k (pos 0)) ≤ 50000000
   pub speed : (k : ℕ) → natAbs (getD s (c .rows * c .columns + k) (pos 0)) ≤ 20000000
   -- by column and row
@@ -108,15 +107,6 @@ pub record Fits (c : Card) (g s : List ℤ) : Type 0 where
   pub height-high-at : (i j : ℕ) → i < c .columns → j < c .rows → natAbs (readState c s .height i j) ≤ 50000000
   pub east-at : (i j : ℕ) → natAbs (readState c s .east i j) ≤ 20000000
   pub north-at : (i j : ℕ) → natAbs (readState c s .north i j) ≤ 20000000
-  -- the walls
-  pub west-wall : (j : ℕ) → j < c .rows → readState c s .east 0 j ≡ pos 0
-  pub east-wall : (j : ℕ) → j < c .rows → readState c s .east (c .columns) j ≡ pos 0
-  pub south-wall : (i : ℕ) → i < c .columns → readState c s .north i 0 ≡ pos 0
-  pub north-wall : (i : ℕ) → i < c .columns → readState c s .north i (c .rows) ≡ pos 0
-
-zero-of : (z : ℤ) → T (isZero z) → z ≡ pos 0
-zero-of (pos n) t = ap pos (eqb→eq n 0 t)
-zero-of (negsuc n) t = absurd (suc-ne-zero n (eqb→eq (suc n) 0 t))
 
 high-of : (z : ℤ) → T (heightFits z) → natAbs z ≤ 50000000
 high-of (pos n) t = leb→le n 50000000 (and-right (leZ (pos 0) (pos n)) (leZ (pos n) (pos 50000000)) t)
@@ -124,12 +114,6 @@ high-of (negsuc n) t = absurd t
 
 low-of : (z : ℤ) → T (heightFits z) → T (leZ (pos 0) z)
 low-of z t = and-left (leZ (pos 0) z) (leZ z (pos 50000000)) t
-
--- two numbers that are 0 at every place below n
-two-at : (n : ℕ) (f h : ℕ → ℤ) → T (all n (λ k. isZero (f k) && isZero (h k))) → (k : ℕ) → k < n → (f k ≡ pos 0) × (h k ≡ pos 0)
-two-at n f h t k b =
-    let u = all-at n (λ k. isZero (f k) && isZero (h k)) t k b in
-    (zero-of (f k) (and-left (isZero (f k)) (isZero (h k)) u), zero-of (h k) (and-right (isZero (f k)) (isZero (h k)) u))
 
 -- numbers of which the first n are at most b, and the others 0
 padded : (b n : ℕ) (f : ℕ → ℤ) → ((k : ℕ) → k < n → natAbs (f k) ≤ b) → ((k : ℕ) → n ≤ k → f k ≡ pos 0) → (k : ℕ) → natAbs (f k) ≤ b
@@ -140,7 +124,7 @@ padded b n f low high k = go (ltb k n) refl
     go false e = rw (high k (ltb-false k n e)) zero-le
 
 pub value-facts : (c : Card) (g s : List ℤ) → Sized c g s → valuesFit c (readGround c g) (readState c s) ≡ true → Fits c g s
-unfolding valuesFit wallsStill readGround readState
+unfolding valuesFit readGround readState
 value-facts c g s sized e =
     let cells = c .rows * c .columns in
     let faces = c .rows * suc (c .columns) + suc (c .rows) * c .columns in
@@ -155,15 +139,10 @@ value-facts c g s sized e =
     let height : (k : ℕ) → k < cells → T (heightFits (getD s k (pos 0))) = λ k h. all-at cells (λ k. heightFits (getD s k (pos 0))) heights k h in
     let speed : (k : ℕ) → natAbs (getD s (cells + k) (pos 0)) ≤ 20000000 =
     padded 20000000 faces (λ k. getD s (cells + k) (pos 0)) (λ k h. leb→le _ _ (all-at faces (λ k. speedFits (getD s (cells + k) (pos 0))) speeds k h)) (λ k h. List·getD-eq-default s (pos 0) (omega arith)) in
-    let sides = all (c .rows) (λ j. isZero (w .east 0 j) && isZero (w .east (c .columns) j)) in
-    let ends = all (c .columns) (λ i. isZero (w .north i 0) && isZero (w .north i (c .rows))) in
-    let side = two-at (c .rows) (λ j. w .east 0 j) (λ j. w .east (c .columns) j) (and-left sides ends (t .four)) in
-    let end = two-at (c .columns) (λ i. w .north i 0) (λ i. w .north i (c .rows)) (and-right sides ends (t .four)) in
     record {
       card = card-facts c (sized .card);
       lengths = lengths;
       ground = ground;
-      height-low = λ k h. low-of (getD s k (pos 0)) (height k h);
       height-high = λ k h. high-of (getD s k (pos 0)) (height k h);
       speed = speed;
       ground-at = λ i j. ground (j * c .columns + i);
@@ -171,10 +150,6 @@ value-facts c g s sized e =
       height-high-at = λ i j hi hj. high-of (getD s (j * c .columns + i) (pos 0)) (height (j * c .columns + i) (digits-lt hj hi));
       east-at = λ i j. speed (j * suc (c .columns) + i);
       north-at = λ i j. speed (c .rows * suc (c .columns) + (j * c .columns + i));
-      west-wall = λ j h. side j h .0;
-      east-wall = λ j h. side j h .1;
-      south-wall = λ i h. end i h .0;
-      north-wall = λ i h. end i h .1;
     }
 
 -- ---- a check that gives 0

@@ -149,9 +149,6 @@ module _ (z : ℤ) (f : SFits w32 z) where
   pub signed-same : depthText (toZ w32 (ofZ w32 z)) ≡ depthText z
   signed-same = ap depthText back
 
-  pub signed-fitted : (k : ℕ) → fitted (depthText (toZ w32 (ofZ w32 z))) k ≡ fitted (depthText z) k
-  signed-fitted k = ap (λ (t : List ℕ). fitted t k) signed-same
-
   pub signed-none : ltZ (toZ w32 (ofZ w32 z)) (pos 0) ≡ true → depthText z ≡ []
   signed-none t = neg-none z (subst (λ (x : ℤ). ltZ x (pos 0) ≡ true) back t)
 
