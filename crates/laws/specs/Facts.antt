@@ -123,7 +123,7 @@ padded b n f low high k = go (ltb k n) refl
     go true e = low k (ltb-true k n e)
     go false e = rw (high k (ltb-false k n e)) zero-le
 
-pub value-facts : (c : Card) (g s : List ℤ) → Sized c g s → valuesFit c (readGround c g) (readState c s) ≡ true → Fits c g s
+value-facts : (c : Card) (g s : List ℤ) → Sized c g s → valuesFit c (readGround c g) (readState c s) ≡ true → Fits c g s
 unfolding valuesFit readGround readState
 value-facts c g s sized e =
     let cells = c .rows * c .columns in

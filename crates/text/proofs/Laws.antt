@@ -25,7 +25,7 @@ pub fits-in : (t : List ℕ) (k : ℕ) → length t ≤ k → fitted t k ≡ t
 unfolding fitted
 fits-in t k h = rw (le-leb _ _ h)
 
-pub fits-not : (t : List ℕ) (k : ℕ) → k < length t → fitted t k ≡ []
+fits-not : (t : List ℕ) (k : ℕ) → k < length t → fitted t k ≡ []
 unfolding fitted
 fits-not t k h = rw (lt-leb _ _ h)
 
