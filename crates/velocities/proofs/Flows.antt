@@ -25,7 +25,7 @@ module _ {c : Card} {g s t : List ℤ} (f : Flowing c g s t) where
   abbrev pub sound-of : Sound c s
   sound-of = record { ground = g; passes = f .passes }
 
-  -- at a cell: its ground, its old height and its new one
+  -- at a cell: its ground and its new height, and the places of these and of its old height
   module _ {i j : ℕ} (k : Cell c i j) where
     pub ground-in : 0 + (j * c .columns + i) < length g
     ground-in = omega (arith, facts sound-of .lengths .ground, digits-lt (k .row) (k .column))
@@ -40,19 +40,12 @@ module _ {c : Card} {g s t : List ℤ} (f : Flowing c g s t) where
     unfolding readGround
     ground-is = rw zero-add
 
-    pub old-is : getD s (0 + (j * c .columns + i)) (pos 0) ≡ readState c s .height i j
-    unfolding readState
-    old-is = rw zero-add
-
     pub new-is : getD t (0 + (j * c .columns + i)) (pos 0) ≡ newHeight c (readState c s) i j
     unfolding tide
     new-is = height-read (f .tide) i j (k .column) (k .row) (zero-add _)
 
-  -- at a face: its velocity, and what crossed it
+  -- at a face: what crossed it
   module _ {i j : ℕ} where
-    pub in-state : {east : Bool} → FaceIn c east i j → FacePlace c s east i j
-    in-state p = record { card = facts sound-of .card; long = state-long sound-of; face = p }
-
     pub in-tide : {east : Bool} → FaceIn c east i j → FacePlace c t east i j
     in-tide p = record { card = facts sound-of .card; long = long-of (f .tide); face = p }
 
