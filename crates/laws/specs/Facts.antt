@@ -33,10 +33,11 @@ pub record Ranges (c : Card) : Type 0 where
   pub dt-low : 1 ≤ c .dt
   pub dt-high : c .dt ≤ 1000
   pub steps-high : c .steps ≤ 10000
-  -- and of the products that count cells, eastward faces and northward faces
+  -- and of the products that count cells, eastward faces and northward faces, and of their sum
   pub cells-high : c .rows * c .columns ≤ 16384
   pub easts-high : c .rows * suc (c .columns) ≤ 16512
   pub norths-high : suc (c .rows) * c .columns ≤ 16512
+  pub state-high : stateLength c ≤ 49408
 
 record Inside (low high n : ℕ) : Type 0 where
   low-end : low ≤ n
@@ -46,7 +47,7 @@ inside : (low high n : ℕ) → T (within low high n) → Inside low high n
 inside low high n t = record { low-end = leb→le low n (and-left (leb low n) (leb n high) t); high-end = leb→le n high (and-right (leb low n) (leb n high) t) }
 
 pub card-facts : (c : Card) → cardFits c ≡ true → Ranges c
-unfolding cardFits sizesFit sidesFit timesFit
+unfolding cardFits sizesFit sidesFit timesFit stateLength
 card-facts c e =
     let t = three-of (sizesFit c) (sidesFit c) (timesFit c) (to-T e) in
     let columns = inside 1 128 (c .columns) (and-left (within 1 128 (c .columns)) (within 1 128 (c .rows)) (t .one)) in
@@ -56,6 +57,9 @@ card-facts c e =
     let dt = inside 1 1000 (c .dt) (and-left (within 1 1000 (c .dt)) (leb (c .steps) 10000) (t .three)) in
     let wide : suc (c .columns) ≤ 129 = omega arith in
     let tall : suc (c .rows) ≤ 129 = omega arith in
+    let cells : c .rows * c .columns ≤ 16384 = mul-le-mul (rows .high-end) (columns .high-end) in
+    let easts : c .rows * suc (c .columns) ≤ 16512 = mul-le-mul (rows .high-end) wide in
+    let norths : suc (c .rows) * c .columns ≤ 16512 = mul-le-mul tall (columns .high-end) in
     record {
       columns-low = columns .low-end;
       columns-high = columns .high-end;
@@ -68,9 +72,10 @@ card-facts c e =
       dt-low = dt .low-end;
       dt-high = dt .high-end;
       steps-high = leb→le (c .steps) 10000 (and-right (within 1 1000 (c .dt)) (leb (c .steps) 10000) (t .three));
-      cells-high = mul-le-mul (rows .high-end) (columns .high-end);
-      easts-high = mul-le-mul (rows .high-end) wide;
-      norths-high = mul-le-mul tall (columns .high-end);
+      cells-high = cells;
+      easts-high = easts;
+      norths-high = norths;
+      state-high = omega arith;
     }
 
 -- ---- the lists: lent at the lengths that the card asks for
@@ -82,7 +87,8 @@ pub record Sized (c : Card) (g s : List ℤ) : Type 0 where
 
 pub record Lengths (c : Card) (g s : List ℤ) : Type 0 where
   pub ground : length g ≡ c .rows * c .columns
-  pub state : length s ≡ c .rows * c .columns + (c .rows * suc (c .columns) + suc (c .rows) * c .columns)
+  pub state : length s ≡ stateLength c
+  pub heights : c .rows * c .columns ≤ length s
 
 pub length-facts : (c : Card) (g s : List ℤ) → lengthsFit c g s ≡ true → Lengths c g s
 unfolding lengthsFit stateLength
@@ -90,7 +96,8 @@ length-facts c g s e =
     let t = to-T e in
     let ground = eqb (length g) (c .rows * c .columns) in
     let state = eqb (length s) (stateLength c) in
-    record { ground = eqb→eq (length g) (c .rows * c .columns) (and-left ground state t); state = eqb→eq (length s) (stateLength c) (and-right ground state t) }
+    let long : length s ≡ stateLength c = eqb→eq (length s) (stateLength c) (and-right ground state t) in
+    record { ground = eqb→eq (length g) (c .rows * c .columns) (and-left ground state t); state = long; heights = omega arith }
 
 -- ---- the values. A place behind the end of a list reads as 0, so that most of them need no bound on the place.
 
@@ -124,7 +131,7 @@ padded b n f low high k = go (ltb k n) refl
     go false e = rw (high k (ltb-false k n e)) zero-le
 
 value-facts : (c : Card) (g s : List ℤ) → Sized c g s → valuesFit c (readGround c g) (readState c s) ≡ true → Fits c g s
-unfolding valuesFit readGround readState
+unfolding valuesFit readGround readState stateLength
 value-facts c g s sized e =
     let cells = c .rows * c .columns in
     let faces = c .rows * suc (c .columns) + suc (c .rows) * c .columns in

@@ -98,7 +98,6 @@ module _ (l : List ℕ) (n m : ℕ) where
     long = let s = size-facts l n m (f .lengths) in s .sized ∙ size-words (cardIn l) ∙ omega arith
 
     pub few : n + m ≤ 65792
-    unfolding stateLength
     few = let s = size-facts l n m (f .lengths) in let r = card-facts (cardIn l) (f .card) in omega arith
 
     -- the sheet's words are its ground and its state
@@ -179,7 +178,6 @@ look-ready l n m d e h =
 
 -- a sheet that is read has no more words than the draft
 pub read-few : (l : List ℕ) (n m : ℕ) → readNumber l n m ≡ 0 → n + m ≤ 65792
-unfolding stateLength
 read-few l n m e = let r = read-facts l n m e in let k = card-facts (cardIn l) (r .card) in let s = r .sizes in omega arith
 
 module _ (l : List ℕ) (ground state : List ℤ) (r : ℕ) (e : r ≡ readNumber l (length ground) (length state)) where

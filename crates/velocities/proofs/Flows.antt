@@ -13,7 +13,7 @@ use Rattle.rules.specs.Site.{readGround, readState}
 use Rattle.rules.specs.Step.{newHeight}
 use Rattle.laws.specs.Places.{height-in}
 use Rattle.laws.specs.Reading.{long-of, height-read, east-read, north-read}
-use Rattle.heights.proofs.Sites.{facts, state-long}
+use Rattle.heights.proofs.Sites.{facts}
 use Rattle.heights.specs.Known.{Sound}
 use Rattle.heights.specs.Tide.{tide}
 use Rattle.heights.specs.Ways.{across, up, speeds, transfers}
@@ -31,7 +31,7 @@ module _ {c : Card} {g s t : List ℤ} (f : Flowing c g s t) where
     ground-in = omega (arith, facts sound-of .lengths .ground, digits-lt (k .row) (k .column))
 
     pub state-in : 0 + (j * c .columns + i) < length s
-    state-in = height-in c (state-long sound-of) (k .column) (k .row)
+    state-in = height-in c (facts sound-of .lengths .state) (k .column) (k .row)
 
     pub tide-in : 0 + (j * c .columns + i) < length t
     tide-in = height-in c (long-of (f .tide)) (k .column) (k .row)
