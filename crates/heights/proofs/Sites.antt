@@ -2,16 +2,15 @@
 use mathlib.Core.Path.{_≡_, sym, subst}
 use mathlib.Core.Bool.{Bool, true, false}
 use mathlib.Core.List.{List}
-use Prim.Native.Nat.{ℕ, _-_, _≤_, _<_, _^_}
+use Prim.Native.Nat.{ℕ, _≤_, _<_, _^_}
 use native.Mathlib.Omega.{arith}
 use lib.IntN.{ℤ, pos, negsuc, natAbs}
 use lib.Signed.{leZ, mag}
-use lib.ListN.{length}
 use lib.Dec.{T, le→leb}
 use mir.Val.{toZ, ofZ}
 use mir.Syntax.{w32}
 use Rattle.rules.specs.declared.Card.{Card}
-use Rattle.rules.specs.Site.{readGround, readState, stateLength, cardFits, lengthsFit, valuesFit, groundsFit, heightsFit, velocitiesFit, wallsStill, check}
+use Rattle.rules.specs.Site.{readGround, readState, cardFits, lengthsFit, valuesFit, groundsFit, heightsFit, velocitiesFit, wallsStill, check}
 use Rattle.laws.specs.Sizes.{Within}
 use Rattle.laws.specs.Signed.{word-is}
 use Rattle.laws.specs.Tests.{four-of, to-T}
@@ -38,18 +37,14 @@ module _ {c : Card} {s : List ℤ} (sound : Sound c s) where
   pub facts : Fits c (sound .ground) s
   facts = check-facts c (sound .ground) s (sound .passes)
 
-  pub state-long : length s ≡ stateLength c
-  unfolding stateLength
-  state-long = facts .lengths .state
-
   -- ---- places
 
   module _ {i j : ℕ} where
     pub height-place : i < c .columns → j < c .rows → HeightPlace c s i j
-    height-place hi hj = record { long = state-long; column = hi; row = hj }
+    height-place hi hj = record { long = facts .lengths .state; column = hi; row = hj }
 
     pub face-place : {east : Bool} → FaceIn c east i j → FacePlace c s east i j
-    face-place f = record { card = facts .card; long = state-long; face = f }
+    face-place f = record { card = facts .card; long = facts .lengths .state; face = f }
 
   -- ---- numbers
 

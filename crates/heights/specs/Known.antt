@@ -1,4 +1,4 @@
--- What the functions of one step may take as known: what their callers have checked.
+-- What the functions of this half of a step may take as known: what their callers have checked.
 use mathlib.Core.Path.{_≡_}
 use mathlib.Core.Bool.{Bool, true}
 use mathlib.Core.List.{List}

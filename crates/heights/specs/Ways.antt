@@ -1,7 +1,7 @@
 -- The two ways that faces point, eastward (`true`) and northward (`false`), so that what holds of both is said once.
 -- Face (i, j) lies at the west side of cell (i, j), or at its south side.
 use Prim.Native.Nat.{ℕ, suc, _+_, _*_, _-_}
-use mathlib.Core.Bool.{Bool, true, false, not, _||_}
+use mathlib.Core.Bool.{Bool, true, false, _||_}
 use lib.Dec.{eqb}
 use Rattle.rules.specs.declared.Card.{Card}
 use Rattle.rules.specs.Grid.{Field}

@@ -22,7 +22,6 @@ pub record Asked (c : Card) (g s xs ys : List ℤ) (w : Window) (depth : ℤ) : 
   pub few : length xs ≤ 1000
   pub x-fits : allAlong (c .columns * c .dx) xs ≡ true
   pub y-fits : allAlong (c .rows * c .dy) ys ≡ true
-  pub depth-fits : heightFits depth ≡ true
   pub edges-finite : edgesFinite w ≡ true
 
 pub asked-facts : (c : Card) (g s xs ys : List ℤ) (w : Window) (depth : ℤ) → searchCheck c g s xs ys w depth ≡ 0 → Asked c g s xs ys w depth
@@ -43,6 +42,5 @@ asked-facts c g s xs ys w depth e =
       few = leb→le (length xs) 1000 (and-right same few register);
       x-fits = true-of (allAlong (c .columns * c .dx) xs) (asked .one);
       y-fits = true-of (allAlong (c .rows * c .dy) ys) (asked .two);
-      depth-fits = true-of (heightFits depth) (asked .three);
       edges-finite = true-of (edgesFinite w) (asked .four);
     }

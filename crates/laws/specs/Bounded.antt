@@ -1,4 +1,4 @@
--- Under the step limit a transfer is at most a height, and a new height is at least 0 and at most five heights: what a step writes fits a word.
+-- Under the step limit a transfer is at most a height, and a new height is at least 0: what a step writes fits a word.
 use Prim.Native.Nat.{ℕ, zero, suc, _+_, _*_, _/_, _≤_, _<_, zero-le}
 use mathlib.Core.Bool.{Bool, true, false, cond}
 use native.Mathlib.Nat.{le-trans, le-of-eq}
@@ -24,7 +24,7 @@ transfer-within dt d hK hL (pos (suc n)) k l = record { size = k }
 transfer-within dt d hK hL (negsuc n) k l = record { size = le-trans (le-of-eq (abs-neg (pos (natAbs hL * suc n * dt / (1000 * d))))) l }
 
 -- 0 on a wall, and what is bounded elsewhere
-inner-within : {N : ℕ} (b : Bool) {x : ℤ} → (T b → Within N x) → Within N (cond b x (pos 0))
+pub inner-within : {N : ℕ} (b : Bool) {x : ℤ} → (T b → Within N x) → Within N (cond b x (pos 0))
 inner-within true h = h tt
 inner-within false h = record { size = zero-le }
 

@@ -3,7 +3,7 @@ use Prim.Native.Nat.{ℕ, suc, _+_, _*_, _≤_, _<_, zero-le}
 use mathlib.Core.Path.{_≡_, refl, ap, _∙_, subst}
 use mathlib.Core.Bool.{Bool, true, false, _&&_, and-assoc, and-self}
 use mathlib.Core.List.{List}
-use native.Mathlib.Nat.{mul-le-mul, suc-ne-zero}
+use native.Mathlib.Nat.{mul-le-mul}
 use native.Mathlib.Omega.{arith}
 use lib.IntN.{ℤ, pos, negsuc, natAbs}
 use lib.Signed.{leZ}
@@ -13,7 +13,7 @@ use borrow.Author.Tests.{ltb-true, ltb-false}
 use lib.Arith.{digits-lt}
 use Rattle.rules.specs.declared.Card.{Card}
 use Rattle.rules.specs.Grid.{all}
-use Rattle.rules.specs.Site.{within, sizesFit, sidesFit, timesFit, cardFits, stateLength, lengthsFit, readGround, readState, groundFits, heightFits, speedFits, isZero, groundsFit, heightsFit, velocitiesFit, wallsStill, valuesFit, firstOf, check, checkWith}
+use Rattle.rules.specs.Site.{within, sizesFit, sidesFit, timesFit, cardFits, stateLength, lengthsFit, readGround, readState, groundFits, heightFits, speedFits, groundsFit, heightsFit, velocitiesFit, wallsStill, valuesFit, firstOf, check, checkWith}
 use Rattle.laws.specs.Tests.{and-left, and-right, three-of, four-of, to-T, true-of}
 use Rattle.laws.specs.Grids.{all-at}
 use Rattle.laws.specs.Values.{grounds-flat, depths-flat, faces-flat}
@@ -33,10 +33,11 @@ pub record Ranges (c : Card) : Type 0 where
   pub dt-low : 1 ≤ c .dt
   pub dt-high : c .dt ≤ 1000
   pub steps-high : c .steps ≤ 10000
-  -- and of the products that count cells, eastward faces and northward faces
+  -- and of the products that count cells, eastward faces and northward faces, and of their sum
   pub cells-high : c .rows * c .columns ≤ 16384
   pub easts-high : c .rows * suc (c .columns) ≤ 16512
   pub norths-high : suc (c .rows) * c .columns ≤ 16512
+  pub state-high : stateLength c ≤ 49408
 
 record Inside (low high n : ℕ) : Type 0 where
   low-end : low ≤ n
@@ -46,7 +47,7 @@ inside : (low high n : ℕ) → T (within low high n) → Inside low high n
 inside low high n t = record { low-end = leb→le low n (and-left (leb low n) (leb n high) t); high-end = leb→le n high (and-right (leb low n) (leb n high) t) }
 
 pub card-facts : (c : Card) → cardFits c ≡ true → Ranges c
-unfolding cardFits sizesFit sidesFit timesFit
+unfolding cardFits sizesFit sidesFit timesFit stateLength
 card-facts c e =
     let t = three-of (sizesFit c) (sidesFit c) (timesFit c) (to-T e) in
     let columns = inside 1 128 (c .columns) (and-left (within 1 128 (c .columns)) (within 1 128 (c .rows)) (t .one)) in
@@ -56,6 +57,9 @@ card-facts c e =
     let dt = inside 1 1000 (c .dt) (and-left (within 1 1000 (c .dt)) (leb (c .steps) 10000) (t .three)) in
     let wide : suc (c .columns) ≤ 129 = omega arith in
     let tall : suc (c .rows) ≤ 129 = omega arith in
+    let cells : c .rows * c .columns ≤ 16384 = mul-le-mul (rows .high-end) (columns .high-end) in
+    let easts : c .rows * suc (c .columns) ≤ 16512 = mul-le-mul (rows .high-end) wide in
+    let norths : suc (c .rows) * c .columns ≤ 16512 = mul-le-mul tall (columns .high-end) in
     record {
       columns-low = columns .low-end;
       columns-high = columns .high-end;
@@ -68,9 +72,10 @@ card-facts c e =
       dt-low = dt .low-end;
       dt-high = dt .high-end;
       steps-high = leb→le (c .steps) 10000 (and-right (within 1 1000 (c .dt)) (leb (c .steps) 10000) (t .three));
-      cells-high = mul-le-mul (rows .high-end) (columns .high-end);
-      easts-high = mul-le-mul (rows .high-end) wide;
-      norths-high = mul-le-mul tall (columns .high-end);
+      cells-high = cells;
+      easts-high = easts;
+      norths-high = norths;
+      state-high = omega arith;
     }
 
 -- ---- the lists: lent at the lengths that the card asks for
@@ -82,7 +87,8 @@ pub record Sized (c : Card) (g s : List ℤ) : Type 0 where
 
 pub record Lengths (c : Card) (g s : List ℤ) : Type 0 where
   pub ground : length g ≡ c .rows * c .columns
-  pub state : length s ≡ c .rows * c .columns + (c .rows * suc (c .columns) + suc (c .rows) * c .columns)
+  pub state : length s ≡ stateLength c
+  pub heights : c .rows * c .columns ≤ length s
 
 pub length-facts : (c : Card) (g s : List ℤ) → lengthsFit c g s ≡ true → Lengths c g s
 unfolding lengthsFit stateLength
@@ -90,7 +96,8 @@ length-facts c g s e =
     let t = to-T e in
     let ground = eqb (length g) (c .rows * c .columns) in
     let state = eqb (length s) (stateLength c) in
-    record { ground = eqb→eq (length g) (c .rows * c .columns) (and-left ground state t); state = eqb→eq (length s) (stateLength c) (and-right ground state t) }
+    let long : length s ≡ stateLength c = eqb→eq (length s) (stateLength c) (and-right ground state t) in
+    record { ground = eqb→eq (length g) (c .rows * c .columns) (and-left ground state t); state = long; heights = omega arith }
 
 -- ---- the values. A place behind the end of a list reads as 0, so that most of them need no bound on the place.
 
@@ -99,7 +106,6 @@ pub record Fits (c : Card) (g s : List ℤ) : Type 0 where
   pub lengths : Lengths c g s
   -- by place in the list
   pub ground : (k : ℕ) → natAbs (getD g k (pos 0)) ≤ 50000000
-  pub height-low : (k : ℕ) → k < c .rows * c .columns → T (leZ (pos 0) (getD s k (pos 0)))
   pub height-high : (k : ℕ) → k < c .rows * c .columns → natAbs (getD s k (pos 0)) ≤ 50000000
   pub speed : (k : ℕ) → natAbs (getD s (c .rows * c .columns + k) (pos 0)) ≤ 20000000
   -- by column and row
@@ -108,15 +114,6 @@ pub record Fits (c : Card) (g s : List ℤ) : Type 0 where
   pub height-high-at : (i j : ℕ) → i < c .columns → j < c .rows → natAbs (readState c s .height i j) ≤ 50000000
   pub east-at : (i j : ℕ) → natAbs (readState c s .east i j) ≤ 20000000
   pub north-at : (i j : ℕ) → natAbs (readState c s .north i j) ≤ 20000000
-  -- the walls
-  pub west-wall : (j : ℕ) → j < c .rows → readState c s .east 0 j ≡ pos 0
-  pub east-wall : (j : ℕ) → j < c .rows → readState c s .east (c .columns) j ≡ pos 0
-  pub south-wall : (i : ℕ) → i < c .columns → readState c s .north i 0 ≡ pos 0
-  pub north-wall : (i : ℕ) → i < c .columns → readState c s .north i (c .rows) ≡ pos 0
-
-zero-of : (z : ℤ) → T (isZero z) → z ≡ pos 0
-zero-of (pos n) t = ap pos (eqb→eq n 0 t)
-zero-of (negsuc n) t = absurd (suc-ne-zero n (eqb→eq (suc n) 0 t))
 
 high-of : (z : ℤ) → T (heightFits z) → natAbs z ≤ 50000000
 high-of (pos n) t = leb→le n 50000000 (and-right (leZ (pos 0) (pos n)) (leZ (pos n) (pos 50000000)) t)
@@ -124,12 +121,6 @@ high-of (negsuc n) t = absurd t
 
 low-of : (z : ℤ) → T (heightFits z) → T (leZ (pos 0) z)
 low-of z t = and-left (leZ (pos 0) z) (leZ z (pos 50000000)) t
-
--- two numbers that are 0 at every place below n
-two-at : (n : ℕ) (f h : ℕ → ℤ) → T (all n (λ k. isZero (f k) && isZero (h k))) → (k : ℕ) → k < n → (f k ≡ pos 0) × (h k ≡ pos 0)
-two-at n f h t k b =
-    let u = all-at n (λ k. isZero (f k) && isZero (h k)) t k b in
-    (zero-of (f k) (and-left (isZero (f k)) (isZero (h k)) u), zero-of (h k) (and-right (isZero (f k)) (isZero (h k)) u))
 
 -- numbers of which the first n are at most b, and the others 0
 padded : (b n : ℕ) (f : ℕ → ℤ) → ((k : ℕ) → k < n → natAbs (f k) ≤ b) → ((k : ℕ) → n ≤ k → f k ≡ pos 0) → (k : ℕ) → natAbs (f k) ≤ b
@@ -139,8 +130,8 @@ padded b n f low high k = go (ltb k n) refl
     go true e = low k (ltb-true k n e)
     go false e = rw (high k (ltb-false k n e)) zero-le
 
-pub value-facts : (c : Card) (g s : List ℤ) → Sized c g s → valuesFit c (readGround c g) (readState c s) ≡ true → Fits c g s
-unfolding valuesFit wallsStill readGround readState
+value-facts : (c : Card) (g s : List ℤ) → Sized c g s → valuesFit c (readGround c g) (readState c s) ≡ true → Fits c g s
+unfolding valuesFit readGround readState stateLength
 value-facts c g s sized e =
     let cells = c .rows * c .columns in
     let faces = c .rows * suc (c .columns) + suc (c .rows) * c .columns in
@@ -155,15 +146,10 @@ value-facts c g s sized e =
     let height : (k : ℕ) → k < cells → T (heightFits (getD s k (pos 0))) = λ k h. all-at cells (λ k. heightFits (getD s k (pos 0))) heights k h in
     let speed : (k : ℕ) → natAbs (getD s (cells + k) (pos 0)) ≤ 20000000 =
     padded 20000000 faces (λ k. getD s (cells + k) (pos 0)) (λ k h. leb→le _ _ (all-at faces (λ k. speedFits (getD s (cells + k) (pos 0))) speeds k h)) (λ k h. List·getD-eq-default s (pos 0) (omega arith)) in
-    let sides = all (c .rows) (λ j. isZero (w .east 0 j) && isZero (w .east (c .columns) j)) in
-    let ends = all (c .columns) (λ i. isZero (w .north i 0) && isZero (w .north i (c .rows))) in
-    let side = two-at (c .rows) (λ j. w .east 0 j) (λ j. w .east (c .columns) j) (and-left sides ends (t .four)) in
-    let end = two-at (c .columns) (λ i. w .north i 0) (λ i. w .north i (c .rows)) (and-right sides ends (t .four)) in
     record {
       card = card-facts c (sized .card);
       lengths = lengths;
       ground = ground;
-      height-low = λ k h. low-of (getD s k (pos 0)) (height k h);
       height-high = λ k h. high-of (getD s k (pos 0)) (height k h);
       speed = speed;
       ground-at = λ i j. ground (j * c .columns + i);
@@ -171,10 +157,6 @@ value-facts c g s sized e =
       height-high-at = λ i j hi hj. high-of (getD s (j * c .columns + i) (pos 0)) (height (j * c .columns + i) (digits-lt hj hi));
       east-at = λ i j. speed (j * suc (c .columns) + i);
       north-at = λ i j. speed (c .rows * suc (c .columns) + (j * c .columns + i));
-      west-wall = λ j h. side j h .0;
-      east-wall = λ j h. side j h .1;
-      south-wall = λ i h. end i h .0;
-      north-wall = λ i h. end i h .1;
     }
 
 -- ---- a check that gives 0

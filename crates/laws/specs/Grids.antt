@@ -23,7 +23,7 @@ unfolding tabulate
 length-tabulate zero f = refl
 length-tabulate (suc n) f = ap suc (length-tabulate n (λ k. f (suc k)))
 
-pub getD-tabulate : (n : ℕ) (f : ℕ → ℤ) (k : ℕ) (d : ℤ) → k < n → getD (tabulate n f) k d ≡ f k
+getD-tabulate : (n : ℕ) (f : ℕ → ℤ) (k : ℕ) (d : ℤ) → k < n → getD (tabulate n f) k d ≡ f k
 unfolding tabulate
 getD-tabulate zero f k d h = absurd (not-suc-le-zero h)
 getD-tabulate (suc n) f zero d h = refl
@@ -193,7 +193,7 @@ max-le a b c h k = go (leZ a b)
     go true = k
     go false = h
 
-pub greatest-at : (n : ℕ) (f : ℕ → ℤ) (i : ℕ) → i < n → T (leZ (f i) (greatest n f))
+greatest-at : (n : ℕ) (f : ℕ → ℤ) (i : ℕ) → i < n → T (leZ (f i) (greatest n f))
 unfolding greatest
 greatest-at zero f i h = absurd (not-suc-le-zero h)
 greatest-at (suc n) f i h = pick (greatest-at n f i) (eq-or-lt-of-le (le-of-suc-le-suc h))
@@ -202,12 +202,12 @@ greatest-at (suc n) f i h = pick (greatest-at n f i) (eq-or-lt-of-le (le-of-suc-
     pick ih (inl e) = rw e (max-right (greatest n f) (f n))
     pick ih (inr l) = leZ-trans (f i) (greatest n f) (maxZ (greatest n f) (f n)) (ih l) (max-left (greatest n f) (f n))
 
-pub greatest-le : (n : ℕ) (f : ℕ → ℤ) (b : ℤ) → T (leZ (pos 0) b) → ((i : ℕ) → i < n → T (leZ (f i) b)) → T (leZ (greatest n f) b)
+greatest-le : (n : ℕ) (f : ℕ → ℤ) (b : ℤ) → T (leZ (pos 0) b) → ((i : ℕ) → i < n → T (leZ (f i) b)) → T (leZ (greatest n f) b)
 unfolding greatest
 greatest-le zero f b z h = z
 greatest-le (suc n) f b z h = max-le (greatest n f) (f n) b (greatest-le n f b z (λ i l. h i (omega arith))) (h n (le-refl (suc n)))
 
-pub greatest-nonneg : (n : ℕ) (f : ℕ → ℤ) → T (leZ (pos 0) (greatest n f))
+greatest-nonneg : (n : ℕ) (f : ℕ → ℤ) → T (leZ (pos 0) (greatest n f))
 unfolding greatest
 greatest-nonneg zero f = tt
 greatest-nonneg (suc n) f = leZ-trans (pos 0) (greatest n f) (maxZ (greatest n f) (f n)) (greatest-nonneg n f) (max-left (greatest n f) (f n))

@@ -16,8 +16,8 @@ use Rattle.rules.specs.Step.{newHeight, newEast, newNorth, next, limitKept, new
 use Rattle.laws.specs.Tests.{true-of, to-T, and-both, and-left, four-of, of-four}
 use Rattle.laws.specs.Grids.{all-intro, allAt-at, allAt-intro, all-same, allAt-same}
 use Rattle.laws.specs.States.{Alike, height-back, east-back, north-back, length-state}
-use Rattle.laws.specs.Checks.{apart, together, accepted, sides}
-use Rattle.laws.specs.Facts.{length-facts}
+use Rattle.laws.specs.Checks.{apart, together, accepted}
+use Rattle.laws.specs.Facts.{card-facts, length-facts}
 use Rattle.laws.specs.Limit.{not-below}
 use Rattle.laws.specs.Walls.{east-wall, north-wall}
 
@@ -91,11 +91,11 @@ unfolding check stepNumber nextState
 keeps c g s e k =
     let p = apart _ _ _ e in
     let n = next c (readGround c g) (readState c s) in
-    let d = sides c (to-T (p .card)) in
+    let card = card-facts c (p .card) in
     together (record {
       card = p .card;
       lengths = written-fits c g n (length-facts c g s (p .lengths) .ground);
       values =
           values-alike c (readState c (writeState c n)) n (record { height = height-back c n; east = east-back c n; north = north-back c n }) (readGround c g)
-          ∙ true-of _ (next-values c (readGround c g) (readState c s) (d .0) (d .1) (to-T (p .values)) k);
+          ∙ true-of _ (next-values c (readGround c g) (readState c s) (omega arith) (omega arith) (to-T (p .values)) k);
     })

@@ -76,20 +76,20 @@ module _ (c : Card) (w : Water) (i j : ℕ) where
   abbrev pub sends : ℕ → ℤ → ℕ
   sends d u = natAbs (w .height i j) * natAbs u * c .dt / (1000 * d)
 
-  pub east-sent : T (leZ (eastTransfer c w (suc i) j) (pos (sends (c .dx) (w .east (suc i) j))))
+  east-sent : T (leZ (eastTransfer c w (suc i) j) (pos (sends (c .dx) (w .east (suc i) j))))
   unfolding eastTransfer
   east-sent = or-zero-above (ltb (suc i) (c .columns)) (transfer (c .dt) (c .dx) (w .height i j) (w .height (suc i) j) (w .east (suc i) j)) (sends (c .dx) (w .east (suc i) j)) (sent-above (c .dt) (c .dx) (w .height i j) (w .height (suc i) j) (w .east (suc i) j))
 
-  pub north-sent : T (leZ (northTransfer c w i (suc j)) (pos (sends (c .dy) (w .north i (suc j)))))
+  north-sent : T (leZ (northTransfer c w i (suc j)) (pos (sends (c .dy) (w .north i (suc j)))))
   unfolding northTransfer
   north-sent = or-zero-above (ltb (suc j) (c .rows)) (transfer (c .dt) (c .dy) (w .height i j) (w .height i (suc j)) (w .north i (suc j))) (sends (c .dy) (w .north i (suc j))) (sent-above (c .dt) (c .dy) (w .height i j) (w .height i (suc j)) (w .north i (suc j)))
 
-pub west-sent : (c : Card) (w : Water) (i j : ℕ) → T (leZ (negℤ (pos (sends c w i j (c .dx) (w .east i j)))) (eastTransfer c w i j))
+west-sent : (c : Card) (w : Water) (i j : ℕ) → T (leZ (negℤ (pos (sends c w i j (c .dx) (w .east i j)))) (eastTransfer c w i j))
 unfolding eastTransfer
 west-sent c w zero j = neg-low (sends c w zero j (c .dx) (w .east zero j)) 0
 west-sent c w (suc k) j = or-zero-below (ltb (suc k) (c .columns)) (transfer (c .dt) (c .dx) (w .height k j) (w .height (suc k) j) (w .east (suc k) j)) (sends c w (suc k) j (c .dx) (w .east (suc k) j)) (sent-below (c .dt) (c .dx) (w .height k j) (w .height (suc k) j) (w .east (suc k) j))
 
-pub south-sent : (c : Card) (w : Water) (i j : ℕ) → T (leZ (negℤ (pos (sends c w i j (c .dy) (w .north i j)))) (northTransfer c w i j))
+south-sent : (c : Card) (w : Water) (i j : ℕ) → T (leZ (negℤ (pos (sends c w i j (c .dy) (w .north i j)))) (northTransfer c w i j))
 unfolding northTransfer
 south-sent c w i zero = neg-low (sends c w i zero (c .dy) (w .north i zero)) 0
 south-sent c w i (suc k) = or-zero-below (ltb (suc k) (c .rows)) (transfer (c .dt) (c .dy) (w .height i k) (w .height i (suc k)) (w .north i (suc k))) (sends c w i (suc k) (c .dy) (w .north i (suc k))) (sent-below (c .dt) (c .dy) (w .height i k) (w .height i (suc k)) (w .north i (suc k)))
@@ -106,7 +106,7 @@ left-over r e d b a =
 add-back : (h t a b d e : ℕ) → t ≡ a + b + d + e → t ≤ h → h ≡ (h - t) + e + d + b + a
 add-back h t a b d e p l = omega arith
 
-pub at-least : (z : ℤ) → T (leZ (pos 0) z) → T (leZ (pos (natAbs z)) z)
+at-least : (z : ℤ) → T (leZ (pos 0) z) → T (leZ (pos (natAbs z)) z)
 at-least (pos n) t = leZ-refl (pos n)
 at-least (negsuc n) t = absurd t
 

@@ -4,7 +4,7 @@ use mathlib.Core.List.{List, _++_, append-nil}
 use Prim.Native.Nat.{ℕ, _-_, _≤_}
 use native.Mathlib.Omega.{arith}
 use lib.ListN.{length, take, drop, length-append, length-drop, drop-of-length-le}
-use lib.Seq.{take-at, drop-at, length-take-le}
+use lib.Seq.{take-all, take-at, drop-at, length-take-le}
 use borrow.Rule.Slice.PartMut.{putMid}
 
 module _ {A : Type 0} where
@@ -24,9 +24,12 @@ module _ {A : Type 0} where
   pub length-part : (k : ℕ) (l : List A) {m : ℕ} → k ≤ length l → k ≡ m → length (take k l) ≡ m
   length-part k l h e = length-take-le k l h ∙ e
 
-  -- how long `&l[a..]` is
+  -- what `&l[a..]` holds, and how long it is
+  pub back-is : (a : ℕ) (l : List A) → take (length l - a) (drop a l) ≡ drop a l
+  back-is a l = take-all (length l - a) (drop a l) (omega (arith, length-drop a l))
+
   pub back-length : (a : ℕ) (l : List A) → length (take (length l - a) (drop a l)) ≡ length l - a
-  back-length a l = length-take-le (length l - a) (drop a l) (omega (arith, length-drop a l))
+  back-length a l = ap length (back-is a l) ∙ length-drop a l
 
   -- what lies behind a, once `&mut l[a..]` is filled and has come back
   pub back-drop : (a : ℕ) (l : List A) {new : List A} → a ≤ length l → drop a (putMid a (length l - a) l new) ≡ new

@@ -14,14 +14,14 @@ use Rattle.laws.specs.Grids.{tabulate-same, tabulate-add, length-tabulat
 
 -- ---- one more at the end: of a row, and of a grid
 
-pub tabulate-more : (n : ℕ) (f : ℕ → ℤ) → tabulate (n + 1) f ≡ tabulate n f ++ (f n ∷ [])
+tabulate-more : (n : ℕ) (f : ℕ → ℤ) → tabulate (n + 1) f ≡ tabulate n f ++ (f n ∷ [])
 unfolding tabulate
 tabulate-more n f = tabulate-add n 1 f ∙ ap (λ (k : ℕ). tabulate n f ++ (f k ∷ [])) (add-zero n)
 
-pub row-end : (j columns : ℕ) → (j + 1) * columns ≡ j * columns + columns
+row-end : (j columns : ℕ) → (j + 1) * columns ≡ j * columns + columns
 row-end j columns = rw (add-one, suc-mul)
 
-pub grid-more : (columns j : ℕ) (f : Field) → grid columns (j + 1) f ≡ grid columns j f ++ tabulate columns (λ i. f i j)
+grid-more : (columns j : ℕ) (f : Field) → grid columns (j + 1) f ≡ grid columns j f ++ tabulate columns (λ i. f i j)
 unfolding grid
 grid-more columns j f =
     let flat : ℕ → ℤ = λ k. f (k % columns) (k / columns) in

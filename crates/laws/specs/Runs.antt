@@ -52,7 +52,7 @@ module _ (c : Card) (g : List ℤ) where
   -- ---- from the first three checks on
 
   -- for any number k that the checks gave: `check`, or `checkWith` for the public call
-  pub begun-after : (k : ℕ) (s : List ℤ) → k ≡ 0 → runAfter k c g s ≡ runOn c g (c .steps) (started (peak c s)) s
+  begun-after : (k : ℕ) (s : List ℤ) → k ≡ 0 → runAfter k c g s ≡ runOn c g (c .steps) (started (peak c s)) s
   unfolding runAfter runAll
   begun-after k s e = ap (λ (k : ℕ). runAfter k c g s) e
 

@@ -13,9 +13,6 @@ use Rattle.laws.specs.Exact.{sfits}
 pub word-is : (z : ℤ) {x : ℤ} → mag z < 2 ^ 31 → z ≡ x → toZ w32 (ofZ w32 z) ≡ x
 word-is z h e = toZ-ofZ (record { sfits = h }) ∙ e
 
-pub word-back : (z : ℤ) → mag z < 2 ^ 31 → toZ w32 (ofZ w32 z) ≡ z
-word-back z h = toZ-ofZ (record { sfits = h })
-
 -- a number of a small size, as a word
 module _ {n : ℕ} (z : ℤ) {x : ℤ} (e : z ≡ x) (small : Within n x) (room : T (ltb n (2 ^ 31))) where
   pub small-is : toZ w32 (ofZ w32 z) ≡ x

@@ -1,17 +1,13 @@
 -- A pass that fills a lent list with a field and tests each value, left at the first that fails: what each loop keeps, and one law for each need.
-use mathlib.Core.Path.{_≡_, _∙_, sym, ap, subst}
-use mathlib.Core.Bool.{Bool, true, false, _&&_}
+use mathlib.Core.Path.{_≡_, _∙_, sym, ap}
+use mathlib.Core.Bool.{Bool, true, false, _&&_, false≢true}
 use mathlib.Core.List.{List}
 use Prim.Native.Nat.{ℕ, _+_, _*_, _≤_, _<_}
 use lib.IntN.{ℤ}
 use lib.ListN.{length, set}
-use lib.Dec.{T}
 use Rattle.rules.specs.Grid.{Field, grid, allAt}
 use Rattle.laws.specs.Passes as pass
 use Rattle.laws.specs.Looks as look
-
-false-not-true : false ≡ true → ⊥
-false-not-true e = subst T (sym e) tt
 
 -- what such a pass returns, `fits`, says whether every value passes, and where it is true the list that was lent holds them
 pub record Filled (every : Bool) (values : List ℤ) (fits : Bool) (lent : List ℤ) : Type 0 where
@@ -51,11 +47,11 @@ module _ {columns rows : ℕ} {f : Field} {p : ℤ → Bool} where
   -- left at the first value that fails
   pub left : {start next : List ℤ} {j i : ℕ} → CellsTested columns f p rows j start next i → j < rows → i < columns → p (f i j) ≡ false
       → Filled (allAt columns rows (λ i j. p (f i j))) (grid columns rows f) false next
-  left h hj hi e = record { every-one = look.broke (λ i j. p (f i j)) hj hi e; is = λ t. absurd (false-not-true t) }
+  left h hj hi e = record { every-one = look.broke (λ i j. p (f i j)) hj hi e; is = λ t. absurd (false≢true t) }
 
 -- two lists that are filled one after the other, as one: where the first is left early, and where it is not
 pub first-left : {a fits : Bool} {xs ys part lent : List ℤ} (b : Bool) → Filled a xs fits part → fits ≡ false → Filled (a && b) ys false lent
-first-left {a} b h e = record { every-one = ap (λ (x : Bool). x && b) (sym e ∙ h .every-one); is = λ t. absurd (false-not-true t) }
+first-left {a} b h e = record { every-one = ap (λ (x : Bool). x && b) (sym e ∙ h .every-one); is = λ t. absurd (false≢true t) }
 
 pub both-filled : {a b fits more : Bool} {xs ys first last lent whole : List ℤ} → Filled a xs fits first → fits ≡ true → Filled b ys more last
     → (first ≡ xs → last ≡ ys → lent ≡ whole) → Filled (a && b) whole more lent

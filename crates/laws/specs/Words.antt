@@ -16,7 +16,7 @@ use Rattle.laws.specs.Bytes.{bytes-drop, length-bytes, number-bytes, byt
 
 -- ---- a word and its bits, which are the machine's
 
-pub bits-is : (z : ℤ) → bitsOf z ≡ ofZ w32 z
+bits-is : (z : ℤ) → bitsOf z ≡ ofZ w32 z
 unfolding bitsOf
 bits-is (pos n) = refl
 bits-is (negsuc n) = refl
@@ -25,13 +25,13 @@ pub value-is : (b : ℕ) → valueOf b ≡ toZ w32 b
 unfolding valueOf
 value-is b = refl
 
-pub value-bits : (z : ℤ) → SFits w32 z → valueOf (bitsOf z) ≡ z
+value-bits : (z : ℤ) → SFits w32 z → valueOf (bitsOf z) ≡ z
 value-bits z f = value-is (bitsOf z) ∙ ap (toZ w32) (bits-is z) ∙ toZ-ofZ w32 z f
 
-pub bits-value : (b : ℕ) → b < 4294967296 → bitsOf (valueOf b) ≡ b
+bits-value : (b : ℕ) → b < 4294967296 → bitsOf (valueOf b) ≡ b
 bits-value b h = bits-is (valueOf b) ∙ ap (ofZ w32) (value-is b) ∙ ofZ-toZ w32 b (record { fits = h })
 
-pub bits-lt : (z : ℤ) → SFits w32 z → bitsOf z < 4294967296
+bits-lt : (z : ℤ) → SFits w32 z → bitsOf z < 4294967296
 bits-lt z f = subst⁻¹ (λ (n : ℕ). n < 4294967296) (bits-is z) (ofZ-fits w32 z f .fits)
 
 pub value-fits : (b : ℕ) → b < 4294967296 → SFits w32 (valueOf b)
@@ -48,7 +48,7 @@ unfolding wordsBytes
 length-words [] = refl
 length-words (z ∷ zs) = length-append (bytesOf 4 (bitsOf z)) (wordsBytes zs) ∙ omega (arith, length-bytes 4 (bitsOf z), length-words zs)
 
-pub words-append : (xs ys : List ℤ) → wordsBytes (xs ++ ys) ≡ wordsBytes xs ++ wordsBytes ys
+words-append : (xs ys : List ℤ) → wordsBytes (xs ++ ys) ≡ wordsBytes xs ++ wordsBytes ys
 unfolding wordsBytes
 words-append [] ys = refl
 words-append (x ∷ xs) ys = ap (λ (l : List ℕ). bytesOf 4 (bitsOf x) ++ l) (words-append xs ys) ∙ sym (append-assoc (bytesOf 4 (bitsOf x)) (wordsBytes xs) (wordsBytes ys))

@@ -4,9 +4,10 @@ use mathlib.Core.List.{List, [], _++_, append-nil}
 use Prim.Native.Nat.{ℕ, _+_, _-_, _≤_}
 use native.Mathlib.Omega.{arith}
 use lib.ListN.{length, take, drop, length-append, length-drop, drop-of-length-le}
-use lib.Seq.{take-all, take-at, drop-drop}
+use lib.Seq.{take-at, drop-drop}
 use borrow.Rule.Slice.PartMut.{putMid}
 use Rattle.laws.specs.Laid.{laid, laid-laid, length-laid, laid-none, laid-front}
+use Rattle.laws.specs.Parts.{back-is, back-length}
 use Rattle.text.specs.Put.{Put}
 use Rattle.text.proofs.Laws.{fits-in}
 use Rattle.rules.specs.Text.{fitted}
@@ -17,22 +18,16 @@ use Rattle.play.specs.Appended.{Appended}
 abbrev behind : (at : ℕ) → List ℕ → List ℕ
 behind at old = take (length old - at) (drop at old)
 
-behind-is : (at : ℕ) (old : List ℕ) → behind at old ≡ drop at old
-behind-is at old = take-all (length old - at) (drop at old) (omega (arith, length-drop at old))
-
-behind-length : (at : ℕ) (old : List ℕ) → length (behind at old) ≡ length old - at
-behind-length at old = ap length (behind-is at old) ∙ length-drop at old
-
 pub put-appended : {text : List ℕ} {k at : ℕ} {old part : List ℕ} → Put text k (behind at old) part → at + length text ≤ length old
     → Appended text at (at + k) old (putMid at (length old - at) old part)
 unfolding laid
 put-appended {text} {k} {at} {old} {part} p h =
-    let room = behind-length at old in
+    let room = back-length at old in
     let fits : fitted text (length (behind at old)) ≡ text = fits-in text (length (behind at old)) (omega arith) in
     let count : k ≡ length text = p .long ∙ ap length fits in
     let front : part ≡ text ++ drop (at + length text) old =
     p .bytes ∙ ap (λ (t : List ℕ). t ++ drop k (behind at old)) fits
-    ∙ ap (λ (l : List ℕ). text ++ drop k l) (behind-is at old)
+    ∙ ap (λ (l : List ℕ). text ++ drop k l) (back-is at old)
     ∙ ap (λ (l : List ℕ). text ++ l) (drop-drop k at old)
     ∙ ap (λ (n : ℕ). text ++ drop (at + n) old) count in
     let all : length (drop at old) ≤ length old - at = omega (arith, length-drop at old) in
@@ -48,7 +43,7 @@ put-appended {text} {k} {at} {old} {part} p h =
 -- and it ends within the list
 pub put-ends : {text : List ℕ} {k : ℕ} {part : List ℕ} (at : ℕ) (old : List ℕ) → Put text k (behind at old) part → at + length text ≤ length old → at + k ≤ length old
 put-ends {text} {k} at old p h =
-    omega (arith, p .long, ap length (fits-in text (length (behind at old)) (let room = behind-length at old in omega arith)))
+    omega (arith, p .long, ap length (fits-in text (length (behind at old)) (let room = back-length at old in omega arith)))
 
 -- ---- one text behind another
 

@@ -13,33 +13,30 @@ use Rattle.rules.specs.Site.{stateLength, checkWith}
 use Rattle.rules.specs.Run.{Outcome, runAfter, runAll}
 use Rattle.rules.specs.Calls.{runOutcome, runTally, runState, runScratch}
 use Rattle.rules.specs.Contracts.{RunContract}
-use Rattle.laws.specs.Facts.{check-with-facts, check-own}
+use Rattle.laws.specs.Facts.{Fits, check-with-facts, check-own}
 use Rattle.laws.specs.Outcomes.{if-done, if-refused}
 use Rattle.laws.specs.Runs.{refused-after}
 use Rattle.run.specs.Running.{Ready, Roomy, Ended}
 
 module _ {c : Card} {g s x t : List ℤ} (roomy : Roomy c g s x t) where
-  pub state-long : length s ≡ stateLength c
-  unfolding stateLength
-  state-long = check-with-facts c g s (length x) (roomy .passes) .0 .lengths .state
+  facts : Fits c g s
+  facts = check-with-facts c g s (length x) (roomy .passes) .0
 
   pub tide-room : length s ≤ length t
-  unfolding stateLength
-  tide-room =
-      let card = check-with-facts c g s (length x) (roomy .passes) .0 .card in
-      omega (arith, state-long, roomy .tide-long, card .cells-high, card .easts-high, card .norths-high)
+  tide-room = omega (arith, facts .lengths .state, facts .card .state-high, roomy .tide-long)
 
   pub tide-part : length (take (length s) t) ≡ length s
   tide-part = length-take-le (length s) t tide-room
 
   pub ready : Ready c g s x (take (length s) t)
   ready =
+      let state : length s ≡ stateLength c = facts .lengths .state in
       let room : length x ≡ stateLength c = check-with-facts c g s (length x) (roomy .passes) .1 in
       record {
-        passes = sym (check-own c g s) ∙ ap (checkWith c g s) (state-long ∙ sym room) ∙ roomy .passes;
-        state-long = state-long;
+        passes = sym (check-own c g s) ∙ ap (checkWith c g s) (state ∙ sym room) ∙ roomy .passes;
+        state-long = state;
         scratch-long = room;
-        tide-long = tide-part ∙ state-long;
+        tide-long = tide-part ∙ state;
       }
 
 module _ (c : Card) (g s x : List ℤ) where

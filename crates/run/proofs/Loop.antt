@@ -30,12 +30,7 @@ pub record Running (c : Card) (g s₀ s : List ℤ) (t : Tally) (done : ℕ) : T
   pub leads : LeadsTo c g (c .steps) done t s (runAll c g s₀)
 
 pub cells-held : (c : Card) (g s : List ℤ) → check c g s ≡ 0 → cells c ≤ length s
-unfolding stateLength
-cells-held c g s e = omega (arith, check-facts c g s e .lengths .state)
-
-pub state-length : (c : Card) (g s : List ℤ) → check c g s ≡ 0 → length s ≡ stateLength c
-unfolding stateLength
-state-length c g s e = check-facts c g s e .lengths .state
+cells-held c g s e = check-facts c g s e .lengths .heights
 
 pub few-steps : (c : Card) (g s : List ℤ) → check c g s ≡ 0 → c .steps ≤ 10000
 few-steps c g s e = omega (arith, check-facts c g s e .card .steps-high)
@@ -49,7 +44,7 @@ pub begins : (c : Card) (g s : List ℤ) (h : ℤ) → check c g s ≡ 0 → h �
 unfolding runAfter started
 begins c g s h e p = record {
   passes = e;
-  long = state-length c g s e;
+  long = check-facts c g s e .lengths .state;
   most = omega arith;
   counted = refl;
   leads = subst (λ (x : ℤ). LeadsTo c g (c .steps) 0 (record { steps = 0; reason = 0; top = x }) s (runAll c g s)) (sym p) (leads-from c g s 0 refl);
@@ -68,7 +63,7 @@ module _ {c : Card} {g s₀ s : List ℤ} {t : Tally} {done : ℕ} (r : Running 
         let p : t′ ≡ accepted t (peak c (nextState c g s)) = taken ∙ ap (accepted t) (top ∙ ap (peak c) new) in
         record {
           passes = kept;
-          long = state-length c g s′ kept;
+          long = check-facts c g s′ kept .lengths .state;
           most = omega arith;
           counted = ap (λ (x : Tally). x .steps) taken ∙ ap (λ (n : ℕ). n + 1) (r .counted);
           leads =

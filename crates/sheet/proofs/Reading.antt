@@ -3,11 +3,11 @@ use Prim.Native.Nat.{ℕ, suc, _+_, _*_, _-_, _<_, _≤_}
 use mathlib.Core.Path.{_≡_, refl, sym, ap, ap₂, _∙_}
 use mathlib.Core.Bool.{Bool, true, false, cond, _&&_}
 use mathlib.Core.List.{List, _++_}
-use native.Mathlib.Nat.{suc-ne-zero, le-refl}
+use native.Mathlib.Nat.{suc-ne-zero}
 use native.Mathlib.Omega.{arith}
 use lib.IntN.{ℤ}
-use lib.ListN.{length, take, drop, length-drop}
-use lib.Seq.{take-all, take-take, take-add, take-at, drop-at, drop-drop, length-take-le}
+use lib.ListN.{length, take, drop}
+use lib.Seq.{take-take, take-add, take-at, drop-at, drop-drop, length-take-le}
 use lib.Dec.{eqb}
 use borrow.Author.Tests.{le-leb, lt-leb, eq-eqb}
 use Rattle.rules.specs.declared.Card.{Card}
@@ -17,6 +17,7 @@ use Rattle.rules.specs.Calls.{readAnswer, readGroundList, readStateList}
 use Rattle.rules.specs.Contracts.{ReadContract}
 use Rattle.laws.specs.Facts.{Sized, card-facts}
 use Rattle.laws.specs.Outcomes.{if-done, if-refused}
+use Rattle.laws.specs.Parts.{back-length}
 use Rattle.laws.specs.Words.{in-add}
 use Rattle.laws.specs.Sheets.{size-words, size-facts, read-facts, length-ground-in}
 use Rattle.sheet.specs.Front.{frontNumber, sheetValuesFit}
@@ -97,7 +98,6 @@ module _ (l : List ℕ) (n m : ℕ) where
     long = let s = size-facts l n m (f .lengths) in s .sized ∙ size-words (cardIn l) ∙ omega arith
 
     pub few : n + m ≤ 65792
-    unfolding stateLength
     few = let s = size-facts l n m (f .lengths) in let r = card-facts (cardIn l) (f .card) in omega arith
 
     -- the sheet's words are its ground and its state
@@ -122,17 +122,13 @@ module _ (d g s : List ℤ) (n m : ℕ) (e : take (n + m) d ≡ g ++ s) (h : len
       ∙ ap (drop n) e
       ∙ drop-at g s n h
 
--- what lies behind the first n, as the code cuts it
-pub drop-whole : (l : List ℤ) (n : ℕ) → take (length l - n) (drop n l) ≡ drop n l
-drop-whole l n = take-all (length l - n) (drop n l) (rw length-drop (le-refl (length l - n)))
-
 -- a ground and a state, joined, have the lengths that the card asks for
 pub joined-sized : (c : Card) (words : List ℤ) (n : ℕ) → Joined c words n → Sized c (take n words) (take (length words - n) (drop n words))
 unfolding lengthsFit
 joined-sized c words n j =
     let b = j .both in
     let g : length (take n words) ≡ c .rows * c .columns = length-take-le n words (omega arith) ∙ j .ground in
-    let s : length (take (length words - n) (drop n words)) ≡ stateLength c = ap length (drop-whole words n) ∙ length-drop n words ∙ omega arith in
+    let s : length (take (length words - n) (drop n words)) ≡ stateLength c = back-length n words ∙ omega arith in
     record { card = j .card; lengths = rw (eq-eqb (length (take n words)) (c .rows * c .columns) g, eq-eqb (length (take (length words - n) (drop n words))) (stateLength c) s) }
 
 -- the check of the values, on the words that were read
@@ -182,7 +178,6 @@ look-ready l n m d e h =
 
 -- a sheet that is read has no more words than the draft
 pub read-few : (l : List ℕ) (n m : ℕ) → readNumber l n m ≡ 0 → n + m ≤ 65792
-unfolding stateLength
 read-few l n m e = let r = read-facts l n m e in let k = card-facts (cardIn l) (r .card) in let s = r .sizes in omega arith
 
 module _ (l : List ℕ) (ground state : List ℤ) (r : ℕ) (e : r ≡ readNumber l (length ground) (length state)) where

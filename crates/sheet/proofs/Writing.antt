@@ -10,7 +10,7 @@ use lib.ListN.{length, drop, length-append}
 use lib.Dec.{leb}
 use borrow.Author.Tests.{le-leb, lt-leb, leb-true}
 use Rattle.rules.specs.declared.Card.{Card}
-use Rattle.rules.specs.Site.{stateLength, cardFits, lengthsFit, valuesFit, readGround, readState, check}
+use Rattle.rules.specs.Site.{cardFits, lengthsFit, valuesFit, readGround, readState, check}
 use Rattle.rules.specs.Sheet.{bytesOf, wordsBytes, sheetSize, header, sheetOf}
 use Rattle.rules.specs.Calls.{writeNumber, writeAnswer, writeBytes}
 use Rattle.rules.specs.Contracts.{WriteContract}
@@ -44,7 +44,7 @@ pub record Clean (c : Card) (g s : List ℤ) (room : ℕ) : Type 0 where
   pub room-for : sheetSize c ≤ room
 
 pub clean : (c : Card) (g s : List ℤ) (room : ℕ) → writeNumber c g s room ≡ 0 → Clean c g s room
-unfolding writeNumber check stateLength
+unfolding writeNumber check
 clean c g s room e =
     let p = both-passed (check c g s) (cond (leb (sheetSize c) room) 0 8) e in
     let q = apart (cardFits c) (lengthsFit c g s) (valuesFit c (readGround c g) (readState c s)) (p .0) in

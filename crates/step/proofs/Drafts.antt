@@ -21,10 +21,7 @@ use Rattle.step.specs.Draft.{Drafting}
 
 -- no state is longer than the longest
 pub room-few : (c : Card) (g s n : List ℤ) → checkWith c g s (length n) ≡ 0 → length n ≤ 49408
-unfolding stateLength
-room-few c g s n e =
-    let f = check-with-facts c g s (length n) e in
-    omega (arith, f .1, f .0 .card .cells-high, f .0 .card .easts-high, f .0 .card .norths-high)
+room-few c g s n e = let f = check-with-facts c g s (length n) e in omega (arith, f .1, f .0 .card .state-high)
 
 module _ {c : Card} {g s t d n : List ℤ} (drafting : Drafting c g s t d n) where
   room-long : length n ≡ stateLength c
@@ -37,7 +34,6 @@ module _ {c : Card} {g s t d n : List ℤ} (drafting : Drafting c g s t d n) whe
   draft-part = length-take-le (length n) d (drafting .draft)
 
   pub ready : Ready c g s (take (length n) t) (take (length n) d)
-  unfolding stateLength
   ready =
       let facts = check-with-facts c g s (length n) (drafting .passes) .0 in
       let same : length s ≡ length n = facts .lengths .state ∙ sym room-long in

@@ -8,7 +8,7 @@ use lib.IntN.{ℤ, pos, negsuc, natAbs}
 use lib.Signed.{ltZ, nonNeg}
 use mir.Syntax.{w32}
 use mir.Val.{Fits, SFits, toZ, ofZ}
-use mir.ValLaws.{toZ-ofZ}
+use mir.Facts.{toZ-ofZ}
 use mathlib.Core.List.{List, [], _∷_, _++_, append-assoc}
 use lib.ListN.{length, getD, set, take, drop, length-append}
 use lib.Seq.{take-length, take-at, drop-cons, set-at}
@@ -25,7 +25,7 @@ pub fits-in : (t : List ℕ) (k : ℕ) → length t ≤ k → fitted t k ≡ t
 unfolding fitted
 fits-in t k h = rw (le-leb _ _ h)
 
-pub fits-not : (t : List ℕ) (k : ℕ) → k < length t → fitted t k ≡ []
+fits-not : (t : List ℕ) (k : ℕ) → k < length t → fitted t k ≡ []
 unfolding fitted
 fits-not t k h = rw (lt-leb _ _ h)
 
@@ -124,12 +124,9 @@ told-put h {r} {old} t = record { long = t .0; bytes = t .1 ∙ ap (λ (n : ℕ)
 
 -- ---- a signed height: the code reads it as `toZ w32 (ofZ w32 z)`, which is z
 
-clash : {n : ℕ} → n < 0 → ⊥
-clash l = omega arith
-
 neg-none : (z : ℤ) → ltZ z (pos 0) ≡ true → depthText z ≡ []
 unfolding depthText
-neg-none (pos n) t = let l : n < 0 = ltb-true n 0 t in absurd (clash l)
+neg-none (pos n) t = let l : n < 0 = ltb-true n 0 t in absurd (omega arith)
 neg-none (negsuc n) t = refl
 
 abs-fits : (z : ℤ) → SFits w32 z → Fits w32 (natAbs z)
@@ -142,21 +139,15 @@ abs-text (pos n) t = refl
 abs-text (negsuc n) t = absurd t
 
 module _ (z : ℤ) (f : SFits w32 z) where
-  back : toZ w32 (ofZ w32 z) ≡ z
-  back = toZ-ofZ w32 z f
-
   -- a height that is handed on to a callee
   pub signed-same : depthText (toZ w32 (ofZ w32 z)) ≡ depthText z
-  signed-same = ap depthText back
-
-  pub signed-fitted : (k : ℕ) → fitted (depthText (toZ w32 (ofZ w32 z))) k ≡ fitted (depthText z) k
-  signed-fitted k = ap (λ (t : List ℕ). fitted t k) signed-same
+  signed-same = ap depthText (toZ-ofZ f)
 
   pub signed-none : ltZ (toZ w32 (ofZ w32 z)) (pos 0) ≡ true → depthText z ≡ []
-  signed-none t = neg-none z (subst (λ (x : ℤ). ltZ x (pos 0) ≡ true) back t)
+  signed-none t = neg-none z (subst (λ (x : ℤ). ltZ x (pos 0) ≡ true) (toZ-ofZ f) t)
 
   pub signed-cast : ltZ (toZ w32 (ofZ w32 z)) (pos 0) ≡ false → T (nonNeg (toZ w32 (ofZ w32 z))) × Fits w32 (natAbs (toZ w32 (ofZ w32 z)))
-  signed-cast t = (not-under (toZ w32 (ofZ w32 z)) t, subst⁻¹ (λ (x : ℤ). Fits w32 (natAbs x)) back (abs-fits z f))
+  signed-cast t = (not-under (toZ w32 (ofZ w32 z)) t, subst⁻¹ (λ (x : ℤ). Fits w32 (natAbs x)) (toZ-ofZ f) (abs-fits z f))
 
   pub signed-text : ltZ (toZ w32 (ofZ w32 z)) (pos 0) ≡ false → heightText (natAbs (toZ w32 (ofZ w32 z))) ≡ depthText z
-  signed-text t = abs-text (toZ w32 (ofZ w32 z)) (not-under (toZ w32 (ofZ w32 z)) t) ∙ ap depthText back
+  signed-text t = abs-text (toZ w32 (ofZ w32 z)) (not-under (toZ w32 (ofZ w32 z)) t) ∙ ap depthText (toZ-ofZ f)

@@ -13,7 +13,7 @@ use Rattle.rules.specs.Site.{readGround, readState}
 use Rattle.rules.specs.Step.{newHeight}
 use Rattle.laws.specs.Places.{height-in}
 use Rattle.laws.specs.Reading.{long-of, height-read, east-read, north-read}
-use Rattle.heights.proofs.Sites.{facts, state-long}
+use Rattle.heights.proofs.Sites.{facts}
 use Rattle.heights.specs.Known.{Sound}
 use Rattle.heights.specs.Tide.{tide}
 use Rattle.heights.specs.Ways.{across, up, speeds, transfers}
@@ -25,13 +25,13 @@ module _ {c : Card} {g s t : List ℤ} (f : Flowing c g s t) where
   abbrev pub sound-of : Sound c s
   sound-of = record { ground = g; passes = f .passes }
 
-  -- at a cell: its ground, its old height and its new one
+  -- at a cell: its ground and its new height, and the places of these and of its old height
   module _ {i j : ℕ} (k : Cell c i j) where
     pub ground-in : 0 + (j * c .columns + i) < length g
     ground-in = omega (arith, facts sound-of .lengths .ground, digits-lt (k .row) (k .column))
 
     pub state-in : 0 + (j * c .columns + i) < length s
-    state-in = height-in c (state-long sound-of) (k .column) (k .row)
+    state-in = height-in c (facts sound-of .lengths .state) (k .column) (k .row)
 
     pub tide-in : 0 + (j * c .columns + i) < length t
     tide-in = height-in c (long-of (f .tide)) (k .column) (k .row)
@@ -40,19 +40,12 @@ module _ {c : Card} {g s t : List ℤ} (f : Flowing c g s t) where
     unfolding readGround
     ground-is = rw zero-add
 
-    pub old-is : getD s (0 + (j * c .columns + i)) (pos 0) ≡ readState c s .height i j
-    unfolding readState
-    old-is = rw zero-add
-
     pub new-is : getD t (0 + (j * c .columns + i)) (pos 0) ≡ newHeight c (readState c s) i j
     unfolding tide
     new-is = height-read (f .tide) i j (k .column) (k .row) (zero-add _)
 
-  -- at a face: its velocity, and what crossed it
+  -- at a face: what crossed it
   module _ {i j : ℕ} where
-    pub in-state : {east : Bool} → FaceIn c east i j → FacePlace c s east i j
-    in-state p = record { card = facts sound-of .card; long = state-long sound-of; face = p }
-
     pub in-tide : {east : Bool} → FaceIn c east i j → FacePlace c t east i j
     in-tide p = record { card = facts sound-of .card; long = long-of (f .tide); face = p }
 

@@ -1,7 +1,7 @@
 -- The numbers around an inner face are in their ranges: what the arithmetic of a face requires.
 use Prim.Native.Nat.{ℕ, zero, suc, zero-le}
 use mathlib.Core.Path.{refl}
-use mathlib.Core.Bool.{Bool, true, false, not, cond}
+use mathlib.Core.Bool.{Bool, not}
 use mathlib.Core.List.{List}
 use native.Mathlib.Omega.{arith}
 use lib.IntN.{ℤ, pos}
@@ -13,7 +13,7 @@ use Rattle.rules.specs.Step.{after, before, newHeight, newHeightsFit}
 use Rattle.laws.specs.Tests.{to-T}
 use Rattle.laws.specs.Grids.{allAt-at}
 use Rattle.laws.specs.Sizes.{Within}
-use Rattle.laws.specs.Bounded.{new-low}
+use Rattle.laws.specs.Bounded.{inner-within, new-low}
 use Rattle.face.specs.Ranges.{Height, Ground, Speed, Transfer, FaceFits}
 use Rattle.heights.specs.Ways.{speeds, transfers}
 use Rattle.heights.proofs.Sites.{facts, depths, height-fits, speed-fits, crossed}
@@ -25,13 +25,9 @@ use Rattle.velocities.proofs.Flows.{sound-of}
 
 -- beside a face stands another one, or a wall
 module _ {N : ℕ} (f : ℕ → ℤ) (h : (k : ℕ) → Within N (f k)) where
-  or-wall : (b : Bool) (k : ℕ) → Within N (cond b (f k) (pos 0))
-  or-wall true k = h k
-  or-wall false k = record { size = zero-le }
-
   after-within : (n k : ℕ) → Within N (after n f k)
   unfolding after
-  after-within n k = or-wall (ltb (suc k) n) (suc k)
+  after-within n k = inner-within (ltb (suc k) n) (λ t. h (suc k))
 
   before-within : (k : ℕ) → Within N (before f k)
   unfolding before

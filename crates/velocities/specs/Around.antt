@@ -1,6 +1,6 @@
 -- The numbers around an inner face, said once for both ways that faces point, eastward (`true`) and northward (`false`); and what stands where.
 use Prim.Native.Nat.{ℕ}
-use mathlib.Core.Bool.{Bool, true, false, not, cond}
+use mathlib.Core.Bool.{Bool, not, cond}
 use lib.IntN.{ℤ}
 use Rattle.rules.specs.declared.Card.{Card}
 use Rattle.rules.specs.declared.Face.{Face}

@@ -1,7 +1,8 @@
 use Prim.Native.Nat.{_-_}
+use mathlib.Core.Path.{refl}
 use native.Mathlib.Omega.{arith}
 use lib.IntN.{pos}
-use Rattle.laws.specs.Signed.{word-back}
+use Rattle.laws.specs.Signed.{word-is}
 use Rattle.laws.specs.Copies.{Copied, begin, more, done}
 use Rattle.lists.proofs.copy.Statement.{statement}
 use Rattle.lists.proofs.copy.Tie as tie
@@ -34,7 +35,7 @@ loop-less : tie.Need-loop-less Inv-loop μ-loop
 loop-less c = omega arith
 
 loop-again : tie.Need-loop-again Inv-loop μ-loop
-loop-again c = more (pos 0) (c .before .before .loop .inv) (omega arith) (word-back _ (c .to .given))
+loop-again c = more (pos 0) (c .before .before .loop .inv) (omega arith) (word-is _ (c .to .given) refl)
 
 same-length : tie.Need-same-length Inv-loop μ-loop
 same-length c = omega arith

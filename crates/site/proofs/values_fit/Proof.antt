@@ -40,13 +40,12 @@ all-between-requires-3 : tie.Need-all-between-requires-3
 all-between-requires-3 c κs = let l = length-facts _ _ _ (c .before .before .before .pre .lengths) in omega arith
 
 walls-still-requires : tie.Need-walls-still-requires
-unfolding stateLength
 walls-still-requires c κs =
     let o = c .before .before .before .before in
     record { card = o .pre .card; words = length-facts _ _ _ (o .pre .lengths) .state }
 
 returns : tie.Need-returns
-unfolding valuesFit
+unfolding valuesFit stateLength
 returns c =
     let speeds = c .before in
     let depths = speeds .before in

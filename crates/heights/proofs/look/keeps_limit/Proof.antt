@@ -15,7 +15,7 @@ use Rattle.heights.specs.declared.cells.Cell.{Cell}
 use Rattle.heights.specs.Cells.{cellAt}
 use Rattle.heights.specs.Known.{Sound}
 use Rattle.heights.specs.Ways.{side, speeds}
-use Rattle.heights.proofs.Sites.{facts, state-long, speed-fits, time, side-fits}
+use Rattle.heights.proofs.Sites.{facts, speed-fits, time, side-fits}
 use Rattle.heights.proofs.look.keeps_limit.Statement.{statement}
 use Rattle.heights.proofs.look.keeps_limit.Tie as tie
 
@@ -51,7 +51,7 @@ module _ {c : Card} {s : List ℤ} (i j : ℕ) (cell : Cell) (sound : Sound c s)
       )
 
 cell-at-requires : tie.Need-cell-at-requires
-cell-at-requires c κs = let p = c .pre in record { card = facts (p .sound) .card; heights = state-long (p .sound); faces = state-long (p .sound); column = p .column; row = p .row }
+cell-at-requires c κs = let p = c .pre in record { card = facts (p .sound) .card; heights = facts (p .sound) .lengths .state; faces = facts (p .sound) .lengths .state; column = p .column; row = p .row }
 
 keeps-limit-requires : tie.Need-keeps-limit-requires
 keeps-limit-requires c κs = search in-limit

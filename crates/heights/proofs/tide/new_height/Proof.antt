@@ -12,7 +12,7 @@ use Rattle.face.specs.Ranges.{Height}
 use Rattle.heights.specs.declared.cells.Cell.{Cell}
 use Rattle.heights.specs.Cells.{cellAt}
 use Rattle.heights.specs.Ways.{across, up, speeds, transfers}
-use Rattle.heights.proofs.Sites.{facts, state-long, height-fits, height-within, crossed}
+use Rattle.heights.proofs.Sites.{facts, height-fits, height-within, crossed}
 use Rattle.heights.proofs.Tides.{crossing}
 use Rattle.heights.proofs.tide.new_height.Statement.{statement}
 use Rattle.heights.proofs.tide.new_height.Tie as tie
@@ -20,7 +20,7 @@ use Rattle.heights.proofs.tide.new_height.Tie as tie
 cell-at-requires : tie.Need-cell-at-requires
 cell-at-requires c κs =
     let p = c .pre in
-    record { card = facts (p .lists .limited .sound) .card; heights = state-long (p .lists .limited .sound); faces = p .lists .long; column = p .column; row = p .row }
+    record { card = facts (p .lists .limited .sound) .card; heights = facts (p .lists .limited .sound) .lengths .state; faces = p .lists .long; column = p .column; row = p .row }
 
 -- the numbers of the cell: its old height, and what crosses its four faces
 module _ (c : tie.After-struct-told5) where

@@ -6,7 +6,8 @@ use lib.IntN.{ℤ}
 use lib.ListN.{take}
 use lib.Seq.{length-take-le}
 use Rattle.rules.specs.Site.{valuesFit, readGround, readState}
-use Rattle.sheet.proofs.Reading.{joined-sized, drop-whole}
+use Rattle.laws.specs.Parts.{back-is}
+use Rattle.sheet.proofs.Reading.{joined-sized}
 use borrow.Author.Needs.{needs}
 use Rattle.sheet.proofs.reader.words_fit.Statement.{statement}
 use Rattle.sheet.proofs.reader.words_fit.Tie as tie
@@ -34,7 +35,7 @@ values-fit-requires c κs = let a = c .before .before in joined-sized (a .args .
 returns : tie.Need-returns
 returns c =
     let a = c .before .before .before .args in
-    c .values-fit .ensures ∙ ap (λ (s : List ℤ). valuesFit (a .card) (readGround (a .card) (take (a .n) (a .words .now))) (readState (a .card) s)) (drop-whole (a .words .now) (a .n))
+    c .values-fit .ensures ∙ ap (λ (s : List ℤ). valuesFit (a .card) (readGround (a .card) (take (a .n) (a .words .now))) (readState (a .card) s)) (back-is (a .n) (a .words .now))
 
 pub words-fit-spec : {M : Type 1} → statement M
 words-fit-spec =

@@ -3,10 +3,11 @@ use mathlib.Core.Path.{_∙_}
 use native.Mathlib.Omega.{arith}
 use borrow.Author.Needs.{needs}
 use Rattle.laws.specs.Signed.{word-is}
-use Rattle.heights.proofs.Sites.{facts}
+use Rattle.laws.specs.Places.{height-read}
+use Rattle.heights.proofs.Sites.{facts, face-place}
 use Rattle.velocities.specs.Around.{between}
 use Rattle.velocities.proofs.Around.{Cell, near-in, far-in, cell-k, cell-l, between-is}
-use Rattle.velocities.proofs.Flows.{sound-of, ground-in, state-in, tide-in, ground-is, old-is, new-is, in-state, in-tide, crossed-is}
+use Rattle.velocities.proofs.Flows.{sound-of, ground-in, state-in, tide-in, ground-is, new-is, in-tide, crossed-is}
 use Rattle.velocities.proofs.faces.face.Statement.{statement}
 use Rattle.velocities.proofs.faces.face.Tie as tie
 
@@ -41,10 +42,10 @@ forth-requires-2 c κs =
     omega arith
 
 above-requires : tie.Need-above-requires
-above-requires c κs = in-state (start c .pre .flowing) (near-in _ (l c))
+above-requires c κs = face-place (sound-of (start c .pre .flowing)) (near-in _ (l c))
 
 below-requires : tie.Need-below-requires
-below-requires c κs = let d : tie.After-forth2 = c .before in in-state (start d .pre .flowing) (near-in _ (l d))
+below-requires c κs = let d : tie.After-forth2 = c .before in face-place (sound-of (start d .pre .flowing)) (near-in _ (l d))
 
 word-requires : tie.Need-word-requires
 word-requires c κs = let d : tie.After-forth2 = c .before .before in state-in (start d .pre .flowing) (cell-k (start d .pre))
@@ -86,13 +87,13 @@ face-at-requires-4 : tie.Need-face-at-requires-4
 face-at-requires-4 c κs = let d : tie.After-forth2 = gathered (c .before .before .before .before .before .before) in in-tide (start d .pre .flowing) (near-in _ (l d))
 
 face-at-requires-5 : tie.Need-face-at-requires-5
-face-at-requires-5 c κs = let d : tie.After-forth2 = tided c in in-state (start d .pre .flowing) (near-in _ (l d))
+face-at-requires-5 c κs = let d : tie.After-forth2 = tided c in face-place (sound-of (start d .pre .flowing)) (near-in _ (l d))
 
 far-requires-4 : tie.Need-far-requires-4
-far-requires-4 c κs = let d : tie.After-forth2 = tided (c .before) in in-state (start d .pre .flowing) (far-in _ (l d))
+far-requires-4 c κs = let d : tie.After-forth2 = tided (c .before) in face-place (sound-of (start d .pre .flowing)) (far-in _ (l d))
 
 face-at-requires-6 : tie.Need-face-at-requires-6
-face-at-requires-6 c κs = let d : tie.After-forth2 = tided (c .before .before) in in-state (start d .pre .flowing) (near-in _ (cell-k (start d .pre)))
+face-at-requires-6 c κs = let d : tie.After-forth2 = tided (c .before .before) in face-place (sound-of (start d .pre .flowing)) (near-in _ (cell-k (start d .pre)))
 
 returns : tie.Need-returns
 unfolding between
@@ -120,8 +121,8 @@ returns c =
     let k = cell-k (start d .pre) in
     rw (← between-is (a .card) _ _ (a .east) (a .i) (a .j), ← d .before .forth .ensures, ← d .forth2 .ensures)
     (λ x. record {
-      oldK = word-is (at-oldK .word .result) (at-oldK .word .ok) (at-oldK .word .ensures ∙ old-is f k) x;
-      oldL = word-is (at-oldL .word2 .result) (at-oldL .word2 .ok) (at-oldL .word2 .ensures ∙ old-is f (l d)) x;
+      oldK = word-is (at-oldK .word .result) (at-oldK .word .ok) (at-oldK .word .ensures ∙ height-read (a .card) (a .state .now) (a .i) (a .j)) x;
+      oldL = word-is (at-oldL .word2 .result) (at-oldL .word2 .ok) (at-oldL .word2 .ensures ∙ height-read (a .card) (a .state .now) (d .before .forth .result) (d .forth2 .result)) x;
       newK = word-is (at-newK .word3 .result) (at-newK .word3 .ok) (at-newK .word3 .ensures ∙ new-is f k) x;
       newL = word-is (at-newL .word4 .result) (at-newL .word4 .ok) (at-newL .word4 .ensures ∙ new-is f (l d)) x;
       groundK = word-is (at-groundK .word5 .result) (at-groundK .word5 .ok) (at-groundK .word5 .ensures ∙ ground-is f k) x;
