@@ -26,7 +26,9 @@ pub fn transfer(hk: i32, hl: i32, u: i32, dt: u32, d: u32) -> i64
     ensures { λ r. ⌜ r ≡ step.transfer dt d hk hl u ⌝ }
 {
     let h = upwind(hk, hl, u);
-    (h as i64) * (u as i64) * (dt as i64) / (1000 * (d as i64))
+    let top = (h as i64) * (u as i64) * (dt as i64);
+    let below = 1000 * (d as i64);
+    top / below
 }
 
 // ---- Step limit
@@ -145,7 +147,9 @@ fn slope(f: Face, dt: u32, d: u32) -> i64
     let hl = f.newL;
     let zl = f.groundL;
     let rise = (hl + zl) - (hk + zk);
-    9806650 * (dt as i64) * (rise as i64) / (1000 * (d as i64))
+    let pull = 9806650 * (dt as i64) * (rise as i64);
+    let below = 1000 * (d as i64);
+    pull / below
 }
 
 // The new velocity of an inner face.

@@ -66,5 +66,5 @@ pub record CrossedCell (c : Card) (s t : List ℤ) (i j : ℕ) : Type 0 where
   pub row : j < c .rows
 
 -- any list in the state's layout
-pub record TideHeld (c : Card) (t : List ℤ) : Type 0 where
+pub record InLayout (c : Card) (t : List ℤ) : Type 0 where
   pub long : length t ≡ stateLength c

@@ -7,7 +7,7 @@ ghost use Rattle.laws.specs.Reading.{Holds};
 ghost use Rattle.rules.specs.Step.{newHeight};
 ghost use Rattle.heights.specs.Tide as Tide;
 ghost use Rattle.heights.specs.Places.{HeightPlace};
-ghost use Rattle.heights.specs.Known.{Crossed, CrossedCell, TideHeld};
+ghost use Rattle.heights.specs.Known.{Crossed, CrossedCell, InLayout};
 use super::cells;
 use super::words;
 use rules::Card;
@@ -46,7 +46,7 @@ fn height_fits(card: Card, tide: &[i32], i: usize, j: usize) -> bool
 
 // Whether every height is.
 pub fn heights_fit(card: Card, tide: &[i32]) -> bool
-    requires { ⌜ TideHeld card (now tide) ⌝ }
+    requires { ⌜ InLayout card (now tide) ⌝ }
     ensures { λ r. ⌜ r ≡ Tide.tideFits card (now (tide .entry)) ⌝ }
 {
     let columns = card.columns as usize;

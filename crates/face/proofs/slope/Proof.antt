@@ -37,23 +37,23 @@ add-rise-2 c = fits (level-k c)
 sub-rise : tie.Need-sub-rise
 sub-rise c = fits (rise c)
 
-cast-result : tie.Need-cast-result
-cast-result c = fits (nat (start c .pre .time .high) tt)
+cast-pull : tie.Need-cast-pull
+cast-pull c = fits (nat (start c .pre .time .high) tt)
 
-mul-result : tie.Need-mul-result
-mul-result c = fits (gravity c)
+mul-pull : tie.Need-mul-pull
+mul-pull c = fits (gravity c)
 
-cast-result-2 : tie.Need-cast-result-2
-cast-result-2 c = fits (cast (rise c) tt)
+cast-pull-2 : tie.Need-cast-pull-2
+cast-pull-2 c = fits (cast (rise c) tt)
 
-mul-result-2 : tie.Need-mul-result-2
-mul-result-2 c = fits (top c)
+mul-pull-2 : tie.Need-mul-pull-2
+mul-pull-2 c = fits (top c)
 
-cast-result-3 : tie.Need-cast-result-3
-cast-result-3 c = fits (nat (start c .pre .side .high) tt)
+cast-below : tie.Need-cast-below
+cast-below c = fits (nat (start c .pre .side .high) tt)
 
-mul-result-3 : tie.Need-mul-result-3
-mul-result-3 c = fits (below c)
+mul-below : tie.Need-mul-below
+mul-below c = fits (below c)
 
 div-result : tie.Need-div-result
 div-result c = divides (top c) (below c) (omega (arith, start c .pre .side .low))
@@ -69,11 +69,11 @@ slope-spec =
     add-rise
     add-rise-2
     sub-rise
-    cast-result
-    mul-result
-    cast-result-2
-    mul-result-2
-    cast-result-3
-    mul-result-3
+    cast-pull
+    mul-pull
+    cast-pull-2
+    mul-pull-2
+    cast-below
+    mul-below
     div-result
     returns)

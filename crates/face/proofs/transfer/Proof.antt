@@ -39,26 +39,26 @@ below c = mul (lit 1000 tt) (d c) tt
 upwind-requires : tie.Need-upwind-requires
 upwind-requires c κs = tt
 
-cast-result : tie.Need-cast-result
-cast-result c = fits (h c)
+cast-top : tie.Need-cast-top
+cast-top c = fits (h c)
 
-cast-result-2 : tie.Need-cast-result-2
-cast-result-2 c = fits (u c)
+cast-top-2 : tie.Need-cast-top-2
+cast-top-2 c = fits (u c)
 
-mul-result : tie.Need-mul-result
-mul-result c = fits (hu c)
+mul-top : tie.Need-mul-top
+mul-top c = fits (hu c)
 
-cast-result-3 : tie.Need-cast-result-3
-cast-result-3 c = fits (dt c)
+cast-top-3 : tie.Need-cast-top-3
+cast-top-3 c = fits (dt c)
 
-mul-result-2 : tie.Need-mul-result-2
-mul-result-2 c = fits (top c)
+mul-top-2 : tie.Need-mul-top-2
+mul-top-2 c = fits (top c)
 
-cast-result-4 : tie.Need-cast-result-4
-cast-result-4 c = fits (d c)
+cast-below : tie.Need-cast-below
+cast-below c = fits (d c)
 
-mul-result-3 : tie.Need-mul-result-3
-mul-result-3 c = fits (below c)
+mul-below : tie.Need-mul-below
+mul-below c = fits (below c)
 
 div-result : tie.Need-div-result
 div-result c = divides (top c) (below c) (omega (arith, c .before .pre .side .low))
@@ -71,12 +71,12 @@ transfer-spec =
     tie.close
     (tie.spec
     upwind-requires
-    cast-result
-    cast-result-2
-    mul-result
-    cast-result-3
-    mul-result-2
-    cast-result-4
-    mul-result-3
+    cast-top
+    cast-top-2
+    mul-top
+    cast-top-3
+    mul-top-2
+    cast-below
+    mul-below
     div-result
     returns)
