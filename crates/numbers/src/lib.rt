@@ -1,6 +1,6 @@
 // Numbers and words as bytes, the most significant byte first.
 ghost use mathlib.Core.Path.{_≡_};
-ghost use Prim.Native.Nat.{_+_, _*_, _≤_, _<_};
+ghost use Prim.Native.Nat.{_+_, _*_, _≤_};
 ghost use lib.ListN.{length, drop};
 ghost use Rattle.rules.specs.Sheet.{numberIn, bytesOf, bitsOf, valueOf, wordsIn, wordsBytes};
 ghost use Rattle.laws.specs.Laid.{laid};
