@@ -6,7 +6,7 @@ use native.Mathlib.Omega.{arith}
 use lib.Dec.{lit≤}
 use lib.IntN.{ℤ, pos, negsuc}
 use Rattle.rules.specs.declared.Face.{Face}
-use Rattle.rules.specs.Step.{outAhead, outBehind, outAbove, outBelow, positive, ownShare, brought, carried, slope}
+use Rattle.rules.specs.Step.{outAhead, outBehind, outAbove, outBelow, positive, ownShare, brought, carried, rise, slope}
 use Rattle.laws.specs.Sizes.{Within, within-nat, within-neg, within-add, within-sub, within-mul, within-quot, within-order}
 use Rattle.face.specs.Ranges.{Height, Time, Side, FaceFits}
 
@@ -57,7 +57,7 @@ module _ {f : Face} (r : FaceFits f) where
       (within-add (brought-within above-within (r .uAbove)) (brought-within below-within (r .uBelow))))
 
   pub slope-within : {dt d : ℕ} → Time dt → Side d → Within 20000000000 (slope dt d f)
-  unfolding slope
+  unfolding slope rise
   slope-within {dt} {d} t s =
       within-quot 100000000 (1000 * d) 20000000000
       (within-mul (within-nat (mul-le-mul-left 9806650 (t .high))) (within-sub (within-add (height-within (r .newL)) (r .groundL)) (within-add (height-within (r .newK)) (r .groundK))))

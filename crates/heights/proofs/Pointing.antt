@@ -11,7 +11,7 @@ use Rattle.rules.specs.declared.Card.{Card}
 use Rattle.rules.specs.Site.{Water, stateLength, readState}
 use Rattle.rules.specs.Step.{transfer, eastTransfer, northTransfer}
 use Rattle.laws.specs.Places.{east-in, north-in, east-read, north-read}
-use Rattle.laws.specs.Lines.{no-end, inner-is}
+use Rattle.laws.specs.Lines.{no-end, walled-is}
 use Rattle.heights.specs.Ways.{across, up, first, side, isWall, back, forth, speeds, transfers}
 use Rattle.heights.specs.Places.{FaceIn}
 
@@ -56,8 +56,8 @@ module _ (c : Card) where
         → transfers c w east i j ≡ cond (isWall c east i j) (pos 0) (transfer (c .dt) (side c east) (w .height (back east i) (back (not east) j)) (w .height (forth east (back east i)) (forth (not east) (back (not east) j)))
         (speeds w east (forth east (back east i)) (forth (not east) (back (not east) j))))
     unfolding across up isWall transfers eastTransfer northTransfer side back forth speeds
-    line true i j f = let h : i ≤ c .columns = omega (arith, f .column) in inner-is (c .columns) _ (λ k. eastTransfer c w k j) refl (λ k. refl) i h
-    line false i j f = let h : j ≤ c .rows = omega (arith, f .row) in inner-is (c .rows) _ (λ k. northTransfer c w i k) refl (λ k. refl) j h
+    line true i j f = let h : i ≤ c .columns = omega (arith, f .column) in walled-is (c .columns) _ i h
+    line false i j f = let h : j ≤ c .rows = omega (arith, f .row) in walled-is (c .rows) _ j h
 
     pub over-wall : (east : Bool) (i j : ℕ) → FaceIn c east i j → isWall c east i j ≡ true → transfers c w east i j ≡ pos 0
     over-wall east i j f e = line east i j f ∙ rw e

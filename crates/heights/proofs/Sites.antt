@@ -86,7 +86,7 @@ module _ {c : Card} {s : List ℤ} (limited : Limited c s) where
   unfolding across up transfers
   crossed true i j f =
       let card = facts (limited .sound) .card in
-      bounded.east-within c (readState c s) (omega arith) (omega arith) (depths (limited .sound)) (to-T (limited .limit)) i j (omega (arith, f .column)) (f .row)
+      bounded.east-within c (readState c s) (omega arith) (omega arith) (depths (limited .sound)) (to-T (limited .limit)) i j (f .row)
   crossed false i j f =
       let card = facts (limited .sound) .card in
-      bounded.north-within c (readState c s) (omega arith) (omega arith) (depths (limited .sound)) (to-T (limited .limit)) i j (f .column) (omega (arith, f .row))
+      bounded.north-within c (readState c s) (omega arith) (omega arith) (depths (limited .sound)) (to-T (limited .limit)) i j (f .column)

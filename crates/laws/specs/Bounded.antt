@@ -13,6 +13,7 @@ use Rattle.laws.specs.Tests.{and-left, and-right}
 use Rattle.laws.specs.Numbers.{abs-neg}
 use Rattle.laws.specs.Sizes.{Within, within-order}
 use Rattle.laws.specs.Grids.{allAt-at}
+use Rattle.laws.specs.Walls.{everywhere}
 use Rattle.laws.specs.Limit.{leaves, sends, not-below}
 
 -- a transfer is at most what K and L can send over the face
@@ -22,11 +23,6 @@ unfolding transfer
 transfer-within dt d hK hL (pos zero) k l = record { size = zero-le }
 transfer-within dt d hK hL (pos (suc n)) k l = record { size = k }
 transfer-within dt d hK hL (negsuc n) k l = record { size = le-trans (le-of-eq (abs-neg (pos (natAbs hL * suc n * dt / (1000 * d))))) l }
-
--- 0 on a wall, and what is bounded elsewhere
-pub inner-within : {N : ℕ} (b : Bool) {x : ℤ} → (T b → Within N x) → Within N (cond b x (pos 0))
-inner-within true h = h tt
-inner-within false h = record { size = zero-le }
 
 module _ (c : Card) (w : Water) (sideX : 0 < c .dx) (sideY : 0 < c .dy) (depths : T (heightsFit c w)) (limit : T (limitKept c w)) where
   height-fits : (i j : ℕ) → i < c .columns → j < c .rows → T (heightFits (w .height i j))
@@ -54,19 +50,19 @@ module _ (c : Card) (w : Water) (sideX : 0 < c .dx) (sideY : 0 < c .dy) (depths 
       (leb→le _ _ (within-limit i j hi hj)))
       (old-within i j hi hj .size)
 
-  pub east-within : (i j : ℕ) → i ≤ c .columns → j < c .rows → Within 50000000 (eastTransfer c w i j)
+  pub east-within : (i j : ℕ) → j < c .rows → Within 50000000 (eastTransfer c w i j)
   unfolding eastTransfer
-  east-within zero j hi hj = record { size = zero-le }
-  east-within (suc i) j hi hj =
-      inner-within (ltb (suc i) (c .columns))
-      (λ t. let h = ltb→lt (suc i) (c .columns) t in transfer-within (c .dt) (c .dx) (w .height i j) (w .height (suc i) j) (w .east (suc i) j) (omega (arith, all-sent i j (omega arith) hj)) (omega (arith, all-sent (suc i) j h hj)))
+  east-within i j hj =
+      everywhere (c .columns) _ (λ k x. Within 50000000 x) (λ k. record { size = zero-le })
+      (λ k h. transfer-within (c .dt) (c .dx) (w .height k j) (w .height (suc k) j) (w .east (suc k) j) (omega (arith, all-sent k j (omega arith) hj)) (omega (arith, all-sent (suc k) j h hj)))
+      i
 
-  pub north-within : (i j : ℕ) → i < c .columns → j ≤ c .rows → Within 50000000 (northTransfer c w i j)
+  pub north-within : (i j : ℕ) → i < c .columns → Within 50000000 (northTransfer c w i j)
   unfolding northTransfer
-  north-within i zero hi hj = record { size = zero-le }
-  north-within i (suc j) hi hj =
-      inner-within (ltb (suc j) (c .rows))
-      (λ t. let h = ltb→lt (suc j) (c .rows) t in transfer-within (c .dt) (c .dy) (w .height i j) (w .height i (suc j)) (w .north i (suc j)) (omega (arith, all-sent i j hi (omega arith))) (omega (arith, all-sent i (suc j) hi h)))
+  north-within i j hi =
+      everywhere (c .rows) _ (λ k x. Within 50000000 x) (λ k. record { size = zero-le })
+      (λ k h. transfer-within (c .dt) (c .dy) (w .height i k) (w .height i (suc k)) (w .north i (suc k)) (omega (arith, all-sent i k hi (omega arith))) (omega (arith, all-sent i (suc k) hi h)))
+      j
 
   pub new-low : (i j : ℕ) → i < c .columns → j < c .rows → T (leZ (pos 0) (newHeight c w i j))
   new-low i j hi hj = not-below c w i j sideX sideY (low i j hi hj) (within-limit i j hi hj)

@@ -12,14 +12,14 @@ use lib.Dec.{T, eqb, eqb-refl}
 use Rattle.rules.specs.declared.Card.{Card}
 use Rattle.rules.specs.Grid.{Field, all}
 use Rattle.rules.specs.Site.{Water, cells, stateLength, readGround, readState, writeState, isZero, groundsFit, heightsFit, velocitiesFit, wallsStill, valuesFit, lengthsFit, check}
-use Rattle.rules.specs.Step.{newHeight, newEast, newNorth, next, limitKept, newHeightsFit, sharesFit, newVelocitiesFit, number, stepNumber, nextState}
+use Rattle.rules.specs.Step.{Rule, walled, newHeight, eastFace, northFace, newVelocity, newEast, newNorth, next, limitKept, newHeightsFit, sharesFit, newVelocitiesFit, number, stepNumberBy, nextStateBy, stepNumber, nextState}
 use Rattle.laws.specs.Tests.{true-of, to-T, and-both, and-left, four-of, of-four}
 use Rattle.laws.specs.Grids.{all-intro, allAt-at, allAt-intro, all-same, allAt-same}
 use Rattle.laws.specs.States.{Alike, height-back, east-back, north-back, length-state}
 use Rattle.laws.specs.Checks.{apart, together, accepted}
 use Rattle.laws.specs.Facts.{card-facts, length-facts}
 use Rattle.laws.specs.Limit.{not-below}
-use Rattle.laws.specs.Walls.{east-wall, north-wall}
+use Rattle.laws.specs.Walls.{on-wall}
 
 -- ---- the values of the next state
 
@@ -46,15 +46,15 @@ module _ (c : Card) (w v : Water) (𝓐 : Alike c w v) where
   unfolding valuesFit
   values-alike g = rw (depths-alike, faces-alike, walls-alike)
 
-module _ (c : Card) (g : Field) (w : Water) where
-  walls-next : T (wallsStill c (next c g w))
-  unfolding wallsStill next newEast newNorth
+module _ (rule : Rule) (c : Card) (g : Field) (w : Water) where
+  walls-next : T (wallsStill c (next rule c g w))
+  unfolding wallsStill next newEast newNorth walled
   walls-next =
-      and-both (all (c .rows) (λ j. isZero (newEast c g w 0 j) && isZero (newEast c g w (c .columns) j))) (all (c .columns) (λ i. isZero (newNorth c g w i 0) && isZero (newNorth c g w i (c .rows))))
-      (all-intro (c .rows) _ (λ j hj. rw (east-wall c g w (c .columns) j (le-refl (c .columns))) tt))
-      (all-intro (c .columns) _ (λ i hi. rw (north-wall c g w i (c .rows) (le-refl (c .rows))) tt))
+      and-both (all (c .rows) (λ j. isZero (newEast rule c g w 0 j) && isZero (newEast rule c g w (c .columns) j))) (all (c .columns) (λ i. isZero (newNorth rule c g w i 0) && isZero (newNorth rule c g w i (c .rows))))
+      (all-intro (c .rows) _ (λ j hj. rw (on-wall (c .columns) (λ k. rule (c .dt) (c .dx) (eastFace c g w k j)) (c .columns) (le-refl (c .columns))) tt))
+      (all-intro (c .columns) _ (λ i hi. rw (on-wall (c .rows) (λ k. rule (c .dt) (c .dy) (northFace c g w i k)) (c .rows) (le-refl (c .rows))) tt))
 
-  depths-next : 0 < c .dx → 0 < c .dy → T (heightsFit c w) → T (limitKept c w) → T (newHeightsFit c w) → T (heightsFit c (next c g w))
+  depths-next : 0 < c .dx → 0 < c .dy → T (heightsFit c w) → T (limitKept c w) → T (newHeightsFit c w) → T (heightsFit c (next rule c g w))
   unfolding heightsFit next limitKept newHeightsFit
   depths-next hx hy d l h =
       allAt-intro (c .columns) (c .rows) _ (λ i j hi hj.
@@ -64,12 +64,12 @@ module _ (c : Card) (g : Field) (w : Water) where
       (allAt-at (c .columns) (c .rows) _ l i j hi hj))
       (allAt-at (c .columns) (c .rows) _ h i j hi hj))
 
-  next-values : 0 < c .dx → 0 < c .dy → T (valuesFit c g w) → number c g w ≡ 0 → T (valuesFit c g (next c g w))
+  next-values : 0 < c .dx → 0 < c .dy → T (valuesFit c g w) → number rule c g w ≡ 0 → T (valuesFit c g (next rule c g w))
   unfolding valuesFit velocitiesFit next number newVelocitiesFit
   next-values hx hy t e =
-      let a = accepted (limitKept c w) (newHeightsFit c w) (sharesFit c g w) (newVelocitiesFit c g w) e in
+      let a = accepted (limitKept c w) (newHeightsFit c w) (sharesFit c g w) (newVelocitiesFit rule c g w) e in
       let f = four-of (groundsFit c g) (heightsFit c w) (velocitiesFit c w) (wallsStill c w) t in
-      of-four (groundsFit c g) (heightsFit c (next c g w)) (velocitiesFit c (next c g w)) (wallsStill c (next c g w)) (record {
+      of-four (groundsFit c g) (heightsFit c (next rule c g w)) (velocitiesFit c (next rule c g w)) (wallsStill c (next rule c g w)) (record {
         one = f .one;
         two = depths-next hx hy (f .two) (a .limit) (a .heights);
         three = a .speeds;
@@ -87,15 +87,15 @@ written-fits c g w e =
 -- ---- the checks
 
 pub keeps : (c : Card) (g s : List ℤ) → check c g s ≡ 0 → stepNumber c g s ≡ 0 → check c g (nextState c g s) ≡ 0
-unfolding check stepNumber nextState
+unfolding check stepNumber nextState stepNumberBy nextStateBy
 keeps c g s e k =
     let p = apart _ _ _ e in
-    let n = next c (readGround c g) (readState c s) in
+    let n = next newVelocity c (readGround c g) (readState c s) in
     let card = card-facts c (p .card) in
     together (record {
       card = p .card;
       lengths = written-fits c g n (length-facts c g s (p .lengths) .ground);
       values =
           values-alike c (readState c (writeState c n)) n (record { height = height-back c n; east = east-back c n; north = north-back c n }) (readGround c g)
-          ∙ true-of _ (next-values c (readGround c g) (readState c s) (omega arith) (omega arith) (to-T (p .values)) k);
+          ∙ true-of _ (next-values newVelocity c (readGround c g) (readState c s) (omega arith) (omega arith) (to-T (p .values)) k);
     })

@@ -13,6 +13,7 @@ pub mod Places
 pub mod Copies
 pub mod Runs
 pub mod Walls
+pub mod Rules
 pub mod Keeps
 pub mod Maxima
 pub mod Decimals

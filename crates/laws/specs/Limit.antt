@@ -1,16 +1,16 @@
 -- What the step limit gives: no cell sends more than it holds, and no new height is below 0.
 use Prim.Native.Nat.{ℕ, zero, suc, _+_, _*_, _-_, _/_, _≤_, _<_, zero-le}
 use mathlib.Core.Path.{_≡_, refl, ap, _∙_}
-use mathlib.Core.Bool.{Bool, true, false, cond}
 use native.Mathlib.Nat.{add-mul, mul-le-mul, div-mul-le-self, mul-le-mul-right, mul-le-mul-left, le-of-mul-le-mul-right}
 use native.Mathlib.Omega.{arith}
 use lib.IntN.{ℤ, pos, negsuc, negℤ, natAbs, _+ℤ_, _-ℤ_, +ℤ-negℤ-cancel}
 use lib.Signed.{leZ}
-use lib.Dec.{T, ltb, leb→le, le→leb}
+use lib.Dec.{T, leb→le, le→leb}
 use Rattle.rules.specs.declared.Card.{Card}
 use Rattle.rules.specs.Site.{Water}
 use Rattle.rules.specs.Step.{transfer, eastTransfer, northTransfer, withinLimit, newHeight}
 use Rattle.laws.specs.Numbers.{leZ-trans, leZ-refl, leZ-add, leZ-neg}
+use Rattle.laws.specs.Walls.{behind-has, everywhere}
 
 -- ---- what leaves a cell is at most what it holds
 
@@ -50,14 +50,6 @@ neg-low : (a b : ℕ) → T (leZ (negℤ (pos a)) (pos b))
 neg-low zero b = le→leb zero b zero-le
 neg-low (suc a) b = tt
 
-or-zero-above : (b : Bool) (x : ℤ) (n : ℕ) → T (leZ x (pos n)) → T (leZ (cond b x (pos 0)) (pos n))
-or-zero-above true x n t = t
-or-zero-above false x n t = le→leb zero n zero-le
-
-or-zero-below : (b : Bool) (x : ℤ) (n : ℕ) → T (leZ (negℤ (pos n)) x) → T (leZ (negℤ (pos n)) (cond b x (pos 0)))
-or-zero-below true x n t = t
-or-zero-below false x n t = neg-low n 0
-
 -- ---- a transfer, from above by what K can send, from below by what L can
 
 sent-above : (dt d : ℕ) (hK hL u : ℤ) → T (leZ (transfer dt d hK hL u) (pos (natAbs hK * natAbs u * dt / (1000 * d))))
@@ -78,21 +70,31 @@ module _ (c : Card) (w : Water) (i j : ℕ) where
 
   east-sent : T (leZ (eastTransfer c w (suc i) j) (pos (sends (c .dx) (w .east (suc i) j))))
   unfolding eastTransfer
-  east-sent = or-zero-above (ltb (suc i) (c .columns)) (transfer (c .dt) (c .dx) (w .height i j) (w .height (suc i) j) (w .east (suc i) j)) (sends (c .dx) (w .east (suc i) j)) (sent-above (c .dt) (c .dx) (w .height i j) (w .height (suc i) j) (w .east (suc i) j))
+  east-sent =
+      let most = sends (c .dx) (w .east (suc i) j) in
+      behind-has (c .columns) _ (λ x. T (leZ x (pos most))) (le→leb zero most zero-le) i (λ h. sent-above (c .dt) (c .dx) (w .height i j) (w .height (suc i) j) (w .east (suc i) j))
 
   north-sent : T (leZ (northTransfer c w i (suc j)) (pos (sends (c .dy) (w .north i (suc j)))))
   unfolding northTransfer
-  north-sent = or-zero-above (ltb (suc j) (c .rows)) (transfer (c .dt) (c .dy) (w .height i j) (w .height i (suc j)) (w .north i (suc j))) (sends (c .dy) (w .north i (suc j))) (sent-above (c .dt) (c .dy) (w .height i j) (w .height i (suc j)) (w .north i (suc j)))
+  north-sent =
+      let most = sends (c .dy) (w .north i (suc j)) in
+      behind-has (c .rows) _ (λ x. T (leZ x (pos most))) (le→leb zero most zero-le) j (λ h. sent-above (c .dt) (c .dy) (w .height i j) (w .height i (suc j)) (w .north i (suc j)))
 
 west-sent : (c : Card) (w : Water) (i j : ℕ) → T (leZ (negℤ (pos (sends c w i j (c .dx) (w .east i j)))) (eastTransfer c w i j))
 unfolding eastTransfer
-west-sent c w zero j = neg-low (sends c w zero j (c .dx) (w .east zero j)) 0
-west-sent c w (suc k) j = or-zero-below (ltb (suc k) (c .columns)) (transfer (c .dt) (c .dx) (w .height k j) (w .height (suc k) j) (w .east (suc k) j)) (sends c w (suc k) j (c .dx) (w .east (suc k) j)) (sent-below (c .dt) (c .dx) (w .height k j) (w .height (suc k) j) (w .east (suc k) j))
+west-sent c w i j =
+    everywhere (c .columns) _ (λ k x. T (leZ (negℤ (pos (sends c w k j (c .dx) (w .east k j)))) x))
+    (λ k. neg-low (sends c w k j (c .dx) (w .east k j)) 0)
+    (λ k h. sent-below (c .dt) (c .dx) (w .height k j) (w .height (suc k) j) (w .east (suc k) j))
+    i
 
 south-sent : (c : Card) (w : Water) (i j : ℕ) → T (leZ (negℤ (pos (sends c w i j (c .dy) (w .north i j)))) (northTransfer c w i j))
 unfolding northTransfer
-south-sent c w i zero = neg-low (sends c w i zero (c .dy) (w .north i zero)) 0
-south-sent c w i (suc k) = or-zero-below (ltb (suc k) (c .rows)) (transfer (c .dt) (c .dy) (w .height i k) (w .height i (suc k)) (w .north i (suc k))) (sends c w i (suc k) (c .dy) (w .north i (suc k))) (sent-below (c .dt) (c .dy) (w .height i k) (w .height i (suc k)) (w .north i (suc k)))
+south-sent c w i j =
+    everywhere (c .rows) _ (λ k x. T (leZ (negℤ (pos (sends c w i k (c .dy) (w .north i k)))) x))
+    (λ k. neg-low (sends c w i k (c .dy) (w .north i k)) 0)
+    (λ k h. sent-below (c .dt) (c .dy) (w .height i k) (w .height i (suc k)) (w .north i (suc k)))
+    j
 
 -- ---- no new height is below 0
 

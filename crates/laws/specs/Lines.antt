@@ -1,5 +1,5 @@
--- The faces in a line from wall to wall, by the tests that the code makes at face k: what is 0 on both walls and follows a rule between them, as
--- transfers and velocities do, and what stands at the face before.
+-- The faces in a line from wall to wall, by the tests that the code makes at face k: what is 0 on both walls and f between them, as transfers and
+-- velocities are, and what stands at the face before.
 use Prim.Native.Nat.{ℕ, zero, suc, _-_, _≤_, _<_}
 use mathlib.Core.Path.{_≡_, refl, _∙_}
 use mathlib.Core.Bool.{Bool, true, false, cond, _||_, true≢false}
@@ -8,7 +8,7 @@ use native.Mathlib.Omega.{arith}
 use borrow.Author.Tests.{lt-ltb, le-ltb, eqb-true, eqb-false, ne-eqb}
 use lib.IntN.{ℤ, pos}
 use lib.Dec.{eqb, ltb}
-use Rattle.rules.specs.Step.{before}
+use Rattle.rules.specs.Step.{walled, before}
 
 -- face k is a wall of a line that runs from face 0 to face n
 abbrev pub isEnd : ℕ → ℕ → Bool
@@ -33,13 +33,13 @@ until n k x y h = go (eqb k n) refl
     go true e = let b : n ≤ k = omega (arith, eqb-true k n e) in rw (le-ltb k n b)
     go false e = let other : (k ≡ n) → ⊥ = eqb-false k n e in let b : k < n = omega arith in rw (lt-ltb k n b)
 
--- v follows the rule f between the two walls, and is 0 on both
-pub inner-is : (n : ℕ) (f v : ℕ → ℤ) → v 0 ≡ pos 0 → ((k : ℕ) → v (suc k) ≡ cond (ltb (suc k) n) (f k) (pos 0))
-    → (k : ℕ) → k ≤ n → v k ≡ cond (isEnd n k) (pos 0) (f (k - 1))
-inner-is n f v first rule zero h = first
-inner-is n f v first rule (suc k) h =
+-- 0 on both walls, and f between them
+pub walled-is : (n : ℕ) (f : ℕ → ℤ) (k : ℕ) → k ≤ n → walled n f k ≡ cond (isEnd n k) (pos 0) (f (k - 1))
+unfolding walled
+walled-is n f zero h = refl
+walled-is n f (suc k) h =
     let e : suc k - 1 ≡ k = omega arith in
-    rule k ∙ until n (suc k) (f k) (pos 0) h ∙ rw (end-suc, e)
+    until n (suc k) (f k) (pos 0) h ∙ rw (end-suc, e)
 
 -- what stands at the face before; the first has none
 pub before-is : (f : ℕ → ℤ) (k : ℕ) → before f k ≡ cond (ltb 0 k) (f (k - 1)) (pos 0)

@@ -10,7 +10,7 @@ use lib.Dec.{T, ltb, leb→le, le→leb, lt→ltb}
 use lib.Arith.{le→nltb}
 use Rattle.laws.specs.Tests.{true-of, false-of}
 -- the signs in sums, products and quotients, which `Fair` needs too
-pub use Rattle.rules.specs.Signs.{neg-mul, mul-neg, neg-quot, +ℤ-left-comm, sums}
+pub use Rattle.rules.proofs.Signs.{neg-mul, mul-neg, neg-quot, +ℤ-left-comm, sums}
 
 pub abs-neg : (a : ℤ) → natAbs (negℤ a) ≡ natAbs a
 abs-neg (pos zero) = refl

@@ -6,9 +6,10 @@ use native.Mathlib.Omega.{arith}
 use lib.IntN.{ℤ, negℤ, negℤ-negℤ}
 use Rattle.rules.specs.declared.Card.{Card}
 use Rattle.rules.specs.Site.{readGround, readState, check}
-use Rattle.rules.specs.Step.{next, stepNumber, nextState}
+use Rattle.rules.specs.Step.{newVelocity, next, stepNumberBy, stepNumber, nextStateBy, nextState}
 use Rattle.rules.specs.Run.{peak}
 use Rattle.rules.specs.Turn.{eastWest}
+use Rattle.rules.proofs.Fair.{fair}
 use Rattle.laws.specs.Grids.{length-grid, grid-same}
 use Rattle.laws.specs.States.{height-back, east-back, north-back, ground-back, write-same, peak-same, write-read, grid-read}
 use Rattle.laws.specs.Checks.{apart, together}
@@ -34,10 +35,10 @@ module _ (c : Card) (g s : List ℤ) where
   }
 
   next-mirrored : nextState c (eastWest .ground c g) (eastWest .state c s) ≡ eastWest .state c (nextState c g s)
-  unfolding nextState
+  unfolding nextState nextStateBy
   next-mirrored =
-      let n = next c (readGround c g) (readState c s) in
-      let m = next-mirror c (readState c s) (readState c (eastWest .state c s)) state-mirrored (readGround c g) (readGround c (eastWest .ground c g)) ground-mirrored in
+      let n = next newVelocity c (readGround c g) (readState c s) in
+      let m = next-mirror c (readState c s) (readState c (eastWest .state c s)) state-mirrored (readGround c g) (readGround c (eastWest .ground c g)) ground-mirrored newVelocity fair in
       write-same c _ _ (record {
         height = λ i j hi hj. m .height i (c .columns - 1 - i) j (omega arith) hj ∙ sym (height-back c n (c .columns - 1 - i) j (omega arith) hj);
         east = λ i j hi hj. m .east i (c .columns - i) j (omega arith) hj ∙ ap negℤ (sym (east-back c n (c .columns - i) j (omega arith) hj));
@@ -51,8 +52,8 @@ module _ (c : Card) (g s : List ℤ) where
       (λ i j hi hj. (c .columns - 1 - i, j, omega arith, hj, sym (state-mirrored .height (c .columns - 1 - i) i j (omega arith) hj)))
 
   number-mirrored : stepNumber c (eastWest .ground c g) (eastWest .state c s) ≡ stepNumber c g s
-  unfolding stepNumber
-  number-mirrored = numbers c (readState c s) (readState c (eastWest .state c s)) state-mirrored (readGround c g) (readGround c (eastWest .ground c g)) ground-mirrored
+  unfolding stepNumber stepNumberBy
+  number-mirrored = numbers c (readState c s) (readState c (eastWest .state c s)) state-mirrored (readGround c g) (readGround c (eastWest .ground c g)) ground-mirrored newVelocity fair
 
   check-mirrored : check c g s ≡ 0 → check c (eastWest .ground c g) (eastWest .state c s) ≡ 0
   unfolding check

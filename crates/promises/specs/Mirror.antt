@@ -10,11 +10,10 @@ use lib.Dec.{T, ltb, ltb→lt}
 use Rattle.rules.specs.declared.Card.{Card}
 use Rattle.rules.specs.Grid.{Field}
 use Rattle.rules.specs.Site.{Water}
-use Rattle.rules.specs.Step.{eastTransfer, northTransfer, withinLimit, newHeight, after, before, eastFace, northFace, newEast, newNorth, next}
-use Rattle.rules.specs.Fair.{transfer-turned, along, across, velocity-along, velocity-across}
-use Rattle.laws.specs.Tests.{cond-cong}
+use Rattle.rules.specs.Step.{Rule, eastTransfer, northTransfer, withinLimit, newHeight, after, before, eastFace, northFace, newEast, newNorth, next}
+use Rattle.rules.proofs.Fair.{transfer-turned, endForEnd, sideForSide, Fair}
 use Rattle.laws.specs.Numbers.{abs-neg, sums}
-use Rattle.laws.specs.Walls.{wall, inside}
+use Rattle.laws.specs.Walls.{wall, inside, walled-same, walled-mirror}
 
 pub record MirrorField (m n : ℕ) (f f′ : Field) : Type 0 where
   pub same : (i i′ j : ℕ) → suc (i + i′) ≡ m → j < n → f′ i j ≡ f i′ j
@@ -51,22 +50,17 @@ before-mirrored m f f′ h (suc k) i′ e = h k (suc i′) (omega arith) ∙ sym
 module _ (c : Card) (w w′ : Water) (𝓜 : Mirror c w w′) where
   east-transfers : (i i′ j : ℕ) → i + i′ ≡ c .columns → j < c .rows → eastTransfer c w′ i j ≡ negℤ (eastTransfer c w i′ j)
   unfolding eastTransfer
-  east-transfers zero zero j e h = refl
-  east-transfers zero (suc k′) j e h = rw (wall (suc k′) (c .columns) _ (omega arith))
-  east-transfers (suc k) zero j e h = wall (suc k) (c .columns) _ (omega arith)
-  east-transfers (suc k) (suc k′) j e h =
-      inside (suc k) (c .columns) _ (omega arith)
-      ∙ rw (𝓜 .height k (suc k′) j (omega arith) h, 𝓜 .height (suc k) k′ j (omega arith) h, 𝓜 .east (suc k) (suc k′) j e h)
-      (transfer-turned (c .dt) (c .dx) (w .height k′ j) (w .height (suc k′) j) (w .east (suc k′) j))
-      ∙ ap negℤ (sym (inside (suc k′) (c .columns) _ (omega arith)))
+  east-transfers i i′ j e h =
+      walled-mirror (c .columns) _ _ (λ k k′ q.
+      rw (𝓜 .height k (suc k′) j (omega arith) h, 𝓜 .height (suc k) k′ j (omega arith) h, 𝓜 .east (suc k) (suc k′) j (omega arith) h)
+      (transfer-turned (c .dt) (c .dx) (w .height k′ j) (w .height (suc k′) j) (w .east (suc k′) j)))
+      i i′ e
 
-  north-transfers : (i i′ j : ℕ) → suc (i + i′) ≡ c .columns → j ≤ c .rows → northTransfer c w′ i j ≡ northTransfer c w i′ j
+  north-transfers : (i i′ j : ℕ) → suc (i + i′) ≡ c .columns → northTransfer c w′ i j ≡ northTransfer c w i′ j
   unfolding northTransfer
-  north-transfers i i′ zero e h = refl
-  north-transfers i i′ (suc k) e h =
-      cond-cong (ltb (suc k) (c .rows)) _ _ _ (λ t.
-      let l : suc k < c .rows = ltb→lt (suc k) (c .rows) t in
-      rw (𝓜 .height i i′ k e (omega arith), 𝓜 .height i i′ (suc k) e l, 𝓜 .north i i′ (suc k) e h))
+  north-transfers i i′ j e =
+      walled-same (c .rows) _ _ (λ k l. rw (𝓜 .height i i′ k e (omega arith), 𝓜 .height i i′ (suc k) e l, 𝓜 .north i i′ (suc k) e (omega arith)))
+      j
 
   pub new-heights : (i i′ j : ℕ) → suc (i + i′) ≡ c .columns → j < c .rows → newHeight c w′ i j ≡ newHeight c w i′ j
   unfolding newHeight
@@ -75,8 +69,8 @@ module _ (c : Card) (w w′ : Water) (𝓜 : Mirror c w w′) where
         𝓜 .height i i′ j e h,
         east-transfers i (suc i′) j (omega arith) h,
         east-transfers (suc i) i′ j (omega arith) h,
-        north-transfers i i′ j e (omega arith),
-        north-transfers i i′ (suc j) e h,
+        north-transfers i i′ j e,
+        north-transfers i i′ (suc j) e,
       )
       (simp sums)
 
@@ -88,8 +82,8 @@ module _ (c : Card) (w w′ : Water) (𝓜 : Mirror c w w′) where
 
   module _ (g g′ : Field) (𝓖 : MirrorField (c .columns) (c .rows) g g′) where
     -- K of the one is L of the other
-    pub east-faces : (i i′ j : ℕ) → suc (suc (i + i′)) ≡ c .columns → j < c .rows → eastFace c g′ w′ i j ≡ along (eastFace c g w i′ j)
-    unfolding eastFace along
+    pub east-faces : (i i′ j : ℕ) → suc (suc (i + i′)) ≡ c .columns → j < c .rows → eastFace c g′ w′ i j ≡ endForEnd (eastFace c g w i′ j)
+    unfolding eastFace endForEnd
     east-faces i i′ j e h = λ x. record {
       oldK = 𝓜 .height i (suc i′) j (omega arith) h x;
       oldL = 𝓜 .height (suc i) i′ j (omega arith) h x;
@@ -100,10 +94,10 @@ module _ (c : Card) (w w′ : Water) (𝓜 : Mirror c w w′) where
       own = east-transfers (suc i) (suc i′) j (omega arith) h x;
       ahead = east-transfers (suc (suc i)) i′ j (omega arith) h x;
       behind = east-transfers i (suc (suc i′)) j (omega arith) h x;
-      aboveK = north-transfers i (suc i′) (suc j) (omega arith) h x;
-      aboveL = north-transfers (suc i) i′ (suc j) (omega arith) h x;
-      belowK = north-transfers i (suc i′) j (omega arith) (omega arith) x;
-      belowL = north-transfers (suc i) i′ j (omega arith) (omega arith) x;
+      aboveK = north-transfers i (suc i′) (suc j) (omega arith) x;
+      aboveL = north-transfers (suc i) i′ (suc j) (omega arith) x;
+      belowK = north-transfers i (suc i′) j (omega arith) x;
+      belowL = north-transfers (suc i) i′ j (omega arith) x;
       u = 𝓜 .east (suc i) (suc i′) j (omega arith) h x;
       uAhead = 𝓜 .east (suc (suc i)) i′ j (omega arith) h x;
       uBehind = 𝓜 .east i (suc (suc i′)) j (omega arith) h x;
@@ -112,8 +106,8 @@ module _ (c : Card) (w w′ : Water) (𝓜 : Mirror c w w′) where
     }
 
     -- its sides change places
-    pub north-faces : (i i′ j : ℕ) → suc (i + i′) ≡ c .columns → suc j < c .rows → northFace c g′ w′ i j ≡ across (northFace c g w i′ j)
-    unfolding northFace across
+    pub north-faces : (i i′ j : ℕ) → suc (i + i′) ≡ c .columns → suc j < c .rows → northFace c g′ w′ i j ≡ sideForSide (northFace c g w i′ j)
+    unfolding northFace sideForSide
     north-faces i i′ j e h = λ x. record {
       oldK = 𝓜 .height i i′ j e (omega arith) x;
       oldL = 𝓜 .height i i′ (suc j) e h x;
@@ -121,9 +115,9 @@ module _ (c : Card) (w w′ : Water) (𝓜 : Mirror c w w′) where
       newL = new-heights i i′ (suc j) e h x;
       groundK = 𝓖 .same i i′ j e (omega arith) x;
       groundL = 𝓖 .same i i′ (suc j) e h x;
-      own = north-transfers i i′ (suc j) e (omega arith) x;
-      ahead = north-transfers i i′ (suc (suc j)) e h x;
-      behind = north-transfers i i′ j e (omega arith) x;
+      own = north-transfers i i′ (suc j) e x;
+      ahead = north-transfers i i′ (suc (suc j)) e x;
+      behind = north-transfers i i′ j e x;
       aboveK = east-transfers (suc i) i′ j (omega arith) (omega arith) x;
       aboveL = east-transfers (suc i) i′ (suc j) (omega arith) h x;
       belowK = east-transfers i (suc i′) j (omega arith) (omega arith) x;
@@ -135,23 +129,19 @@ module _ (c : Card) (w w′ : Water) (𝓜 : Mirror c w w′) where
       uBelow = before-mirrored (c .columns) (λ r. w .north r (suc j)) (λ r. w′ .north r (suc j)) (λ a b q. 𝓜 .north a b (suc j) q (omega arith)) i i′ e x;
     }
 
-    pub new-easts : (i i′ j : ℕ) → i + i′ ≡ c .columns → j < c .rows → newEast c g′ w′ i j ≡ negℤ (newEast c g w i′ j)
-    unfolding newEast
-    new-easts zero zero j e h = refl
-    new-easts zero (suc k′) j e h = rw (wall (suc k′) (c .columns) _ (omega arith))
-    new-easts (suc k) zero j e h = wall (suc k) (c .columns) _ (omega arith)
-    new-easts (suc k) (suc k′) j e h =
-        inside (suc k) (c .columns) _ (omega arith)
-        ∙ rw (east-faces k k′ j (omega arith) h) (velocity-along (eastFace c g w k′ j) (c .dt) (c .dx))
-        ∙ ap negℤ (sym (inside (suc k′) (c .columns) _ (omega arith)))
+    module _ (rule : Rule) (fair : Fair rule) where
+      pub new-easts : (i i′ j : ℕ) → i + i′ ≡ c .columns → j < c .rows → newEast rule c g′ w′ i j ≡ negℤ (newEast rule c g w i′ j)
+      unfolding newEast
+      new-easts i i′ j e h =
+          walled-mirror (c .columns) _ _ (λ k k′ q. rw (east-faces k k′ j q h) (fair .by-ends (eastFace c g w k′ j) (c .dt) (c .dx)))
+          i i′ e
 
-    pub new-norths : (i i′ j : ℕ) → suc (i + i′) ≡ c .columns → j ≤ c .rows → newNorth c g′ w′ i j ≡ newNorth c g w i′ j
-    unfolding newNorth
-    new-norths i i′ zero e h = refl
-    new-norths i i′ (suc k) e h =
-        cond-cong (ltb (suc k) (c .rows)) _ _ _ (λ t.
-        rw (north-faces i i′ k e (ltb→lt (suc k) (c .rows) t)) (velocity-across (northFace c g w i′ k) (c .dt) (c .dy)))
+      pub new-norths : (i i′ j : ℕ) → suc (i + i′) ≡ c .columns → newNorth rule c g′ w′ i j ≡ newNorth rule c g w i′ j
+      unfolding newNorth
+      new-norths i i′ j e =
+          walled-same (c .rows) _ _ (λ k l. rw (north-faces i i′ k e l) (fair .by-sides (northFace c g w i′ k) (c .dt) (c .dy)))
+          j
 
-    pub next-mirror : Mirror c (next c g w) (next c g′ w′)
-    unfolding next
-    next-mirror = record { height = new-heights; east = new-easts; north = new-norths }
+      pub next-mirror : Mirror c (next rule c g w) (next rule c g′ w′)
+      unfolding next
+      next-mirror = record { height = new-heights; east = new-easts; north = λ i i′ j e h. new-norths i i′ j e }

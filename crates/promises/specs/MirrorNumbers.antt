@@ -6,8 +6,8 @@ use native.Mathlib.Omega.{arith}
 use Rattle.rules.specs.declared.Card.{Card}
 use Rattle.rules.specs.Grid.{Field}
 use Rattle.rules.specs.Site.{Water, isZero, groundsFit, heightsFit, velocitiesFit, wallsStill, valuesFit}
-use Rattle.rules.specs.Step.{withinLimit, eastFace, northFace, newEast, limitKept, newHeightsFit, sharesFit, newVelocitiesFit, number}
-use Rattle.rules.specs.Fair.{share-along, share-across}
+use Rattle.rules.specs.Step.{Rule, withinLimit, eastFace, northFace, newEast, limitKept, newHeightsFit, sharesFit, newVelocitiesFit, number}
+use Rattle.rules.proofs.Fair.{share-by-ends, share-by-sides, Fair}
 use Rattle.laws.specs.Tests.{and-comm}
 use Rattle.laws.specs.Numbers.{abs-neg}
 use Rattle.laws.specs.Grids.{allAt-mirror, all-mirror, all-same}
@@ -27,19 +27,20 @@ module _ (c : Card) (w w′ : Water) (𝓜 : Mirror c w w′) (g g′ : Field) (
   unfolding sharesFit
   shares-same =
       ap₂ _&&_
-      (allAt-mirror (c .columns - 1) (c .rows) _ _ (λ i i′ j e h. rw (M.east-faces c w w′ 𝓜 g g′ 𝓖 i i′ j (omega arith) h, share-along (eastFace c g w i′ j))))
-      (allAt-mirror (c .columns) (c .rows - 1) _ _ (λ i i′ j e h. rw (M.north-faces c w w′ 𝓜 g g′ 𝓖 i i′ j e (omega arith), share-across (northFace c g w i′ j))))
+      (allAt-mirror (c .columns - 1) (c .rows) _ _ (λ i i′ j e h. rw (M.east-faces c w w′ 𝓜 g g′ 𝓖 i i′ j (omega arith) h, share-by-ends (eastFace c g w i′ j))))
+      (allAt-mirror (c .columns) (c .rows - 1) _ _ (λ i i′ j e h. rw (M.north-faces c w w′ 𝓜 g g′ 𝓖 i i′ j e (omega arith), share-by-sides (northFace c g w i′ j))))
 
-  speeds-same : newVelocitiesFit c g′ w′ ≡ newVelocitiesFit c g w
-  unfolding newVelocitiesFit
-  speeds-same =
-      ap₂ _&&_
-      (allAt-mirror (suc (c .columns)) (c .rows) _ _ (λ i i′ j e h. rw (M.new-easts c w w′ 𝓜 g g′ 𝓖 i i′ j (omega arith) h, abs-neg (newEast c g w i′ j))))
-      (allAt-mirror (c .columns) (suc (c .rows)) _ _ (λ i i′ j e h. rw (M.new-norths c w w′ 𝓜 g g′ 𝓖 i i′ j e (omega arith))))
+  module _ (rule : Rule) (fair : Fair rule) where
+    speeds-same : newVelocitiesFit rule c g′ w′ ≡ newVelocitiesFit rule c g w
+    unfolding newVelocitiesFit
+    speeds-same =
+        ap₂ _&&_
+        (allAt-mirror (suc (c .columns)) (c .rows) _ _ (λ i i′ j e h. rw (M.new-easts c w w′ 𝓜 g g′ 𝓖 rule fair i i′ j (omega arith) h, abs-neg (newEast rule c g w i′ j))))
+        (allAt-mirror (c .columns) (suc (c .rows)) _ _ (λ i i′ j e h. rw (M.new-norths c w w′ 𝓜 g g′ 𝓖 rule fair i i′ j e)))
 
-  pub numbers : number c g′ w′ ≡ number c g w
-  unfolding number
-  numbers = rw (limit-same, heights-same, shares-same, speeds-same)
+    pub numbers : number rule c g′ w′ ≡ number rule c g w
+    unfolding number
+    numbers = rw (limit-same, heights-same, shares-same, speeds-same)
 
   pub values-same : valuesFit c g′ w′ ≡ valuesFit c g w
   unfolding valuesFit groundsFit heightsFit velocitiesFit wallsStill

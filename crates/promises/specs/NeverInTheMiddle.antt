@@ -9,7 +9,7 @@ use lib.IntN.{ℤ}
 use Rattle.rules.specs.declared.Card.{Card}
 use Rattle.rules.specs.declared.Tally.{Tally}
 use Rattle.rules.specs.Site.{check, readGround, readState}
-use Rattle.rules.specs.Step.{answer, limitKept, newHeightsFit, sharesFit, newVelocitiesFit, number, stepNumber, nextState}
+use Rattle.rules.specs.Step.{answer, limitKept, newHeightsFit, sharesFit, newVelocity, newVelocitiesFit, number, stepNumberBy, stepNumber, nextState}
 use Rattle.rules.specs.Run.{Outcome, peak, started, accepted, stoppedFor, runOn, run}
 use Rattle.laws.specs.Keeps.{keeps}
 use Rattle.laws.specs.Runs.{finished, by-step, begun}
@@ -31,10 +31,10 @@ answers true true true false = tooFast
 answers true true true true = done
 
 pub step-numbers : (c : Card) (g s : List ℤ) → OfAStep (stepNumber c g s)
-unfolding stepNumber number
+unfolding stepNumber stepNumberBy number
 step-numbers c g s =
     let w = readState c s in
-    answers (limitKept c w) (newHeightsFit c w) (sharesFit c (readGround c g) w) (newVelocitiesFit c (readGround c g) w)
+    answers (limitKept c w) (newHeightsFit c w) (sharesFit c (readGround c g) w) (newVelocitiesFit newVelocity c (readGround c g) w)
 
 -- how a run ends that wants so many steps in all
 pub record Ends (c : Card) (g : List ℤ) (wanted : ℕ) (o : Outcome) : Type 0 where

@@ -8,10 +8,11 @@ use lib.Dec.{ltb, ltb→lt}
 use Rattle.rules.specs.declared.Card.{Card}
 use Rattle.rules.specs.Grid.{Field}
 use Rattle.rules.specs.Site.{Water}
-use Rattle.rules.specs.Step.{eastTransfer, northTransfer, withinLimit, newHeight, after, before, eastFace, northFace, newEast, newNorth, next}
+use Rattle.rules.specs.Step.{Rule, eastTransfer, northTransfer, withinLimit, newHeight, after, before, eastFace, northFace, newEast, newNorth, next}
 use Rattle.rules.specs.Turn.{swapCard}
 use Rattle.laws.specs.Tests.{cond-cong}
 use Rattle.laws.specs.Numbers.{sums}
+use Rattle.laws.specs.Walls.{walled-same}
 
 pub record SwappedField (m n : ℕ) (f f′ : Field) : Type 0 where
   pub same : (i j : ℕ) → i < n → j < m → f′ i j ≡ f j i
@@ -31,31 +32,27 @@ before-same f f′ zero h = refl
 before-same f f′ (suc j) h = h j (omega arith)
 
 module _ (c : Card) (w w′ : Water) (𝓢 : Swapped c w w′) where
-  east-transfers : (i j : ℕ) → i ≤ c .rows → j < c .columns → eastTransfer (swapCard c) w′ i j ≡ northTransfer c w j i
+  east-transfers : (i j : ℕ) → j < c .columns → eastTransfer (swapCard c) w′ i j ≡ northTransfer c w j i
   unfolding eastTransfer northTransfer
-  east-transfers zero j hi hj = refl
-  east-transfers (suc k) j hi hj =
-      cond-cong (ltb (suc k) (c .rows)) _ _ _ (λ t.
-      let l : suc k < c .rows = ltb→lt (suc k) (c .rows) t in
-      rw (𝓢 .height k j (omega arith) hj, 𝓢 .height (suc k) j l hj, 𝓢 .east (suc k) j hi hj))
+  east-transfers i j hj =
+      walled-same (c .rows) _ _ (λ k l. rw (𝓢 .height k j (omega arith) hj, 𝓢 .height (suc k) j l hj, 𝓢 .east (suc k) j (omega arith) hj))
+      i
 
-  north-transfers : (i j : ℕ) → i < c .rows → j ≤ c .columns → northTransfer (swapCard c) w′ i j ≡ eastTransfer c w j i
+  north-transfers : (i j : ℕ) → i < c .rows → northTransfer (swapCard c) w′ i j ≡ eastTransfer c w j i
   unfolding eastTransfer northTransfer
-  north-transfers i zero hi hj = refl
-  north-transfers i (suc k) hi hj =
-      cond-cong (ltb (suc k) (c .columns)) _ _ _ (λ t.
-      let l : suc k < c .columns = ltb→lt (suc k) (c .columns) t in
-      rw (𝓢 .height i k hi (omega arith), 𝓢 .height i (suc k) hi l, 𝓢 .north i (suc k) hi hj))
+  north-transfers i j hi =
+      walled-same (c .columns) _ _ (λ k l. rw (𝓢 .height i k hi (omega arith), 𝓢 .height i (suc k) hi l, 𝓢 .north i (suc k) hi (omega arith)))
+      j
 
   pub new-heights : (i j : ℕ) → i < c .rows → j < c .columns → newHeight (swapCard c) w′ i j ≡ newHeight c w j i
   unfolding newHeight
   new-heights i j hi hj =
       rw (
         𝓢 .height i j hi hj,
-        east-transfers i j (omega arith) hj,
-        east-transfers (suc i) j hi hj,
-        north-transfers i j hi (omega arith),
-        north-transfers i (suc j) hi hj,
+        east-transfers i j hj,
+        east-transfers (suc i) j hj,
+        north-transfers i j hi,
+        north-transfers i (suc j) hi,
       )
       (simp sums)
 
@@ -78,13 +75,13 @@ module _ (c : Card) (w w′ : Water) (𝓢 : Swapped c w w′) where
       newL = new-heights (suc i) j hi hj x;
       groundK = 𝓖 .same i j (omega arith) hj x;
       groundL = 𝓖 .same (suc i) j hi hj x;
-      own = east-transfers (suc i) j (omega arith) hj x;
-      ahead = east-transfers (suc (suc i)) j hi hj x;
-      behind = east-transfers i j (omega arith) hj x;
-      aboveK = north-transfers i (suc j) (omega arith) hj x;
-      aboveL = north-transfers (suc i) (suc j) hi hj x;
-      belowK = north-transfers i j (omega arith) (omega arith) x;
-      belowL = north-transfers (suc i) j hi (omega arith) x;
+      own = east-transfers (suc i) j hj x;
+      ahead = east-transfers (suc (suc i)) j hj x;
+      behind = east-transfers i j hj x;
+      aboveK = north-transfers i (suc j) (omega arith) x;
+      aboveL = north-transfers (suc i) (suc j) hi x;
+      belowK = north-transfers i j (omega arith) x;
+      belowL = north-transfers (suc i) j hi x;
       u = 𝓢 .east (suc i) j (omega arith) hj x;
       uAhead = 𝓢 .east (suc (suc i)) j hi hj x;
       uBehind = 𝓢 .east i j (omega arith) hj x;
@@ -101,13 +98,13 @@ module _ (c : Card) (w w′ : Water) (𝓢 : Swapped c w w′) where
       newL = new-heights i (suc j) hi hj x;
       groundK = 𝓖 .same i j hi (omega arith) x;
       groundL = 𝓖 .same i (suc j) hi hj x;
-      own = north-transfers i (suc j) hi (omega arith) x;
-      ahead = north-transfers i (suc (suc j)) hi hj x;
-      behind = north-transfers i j hi (omega arith) x;
-      aboveK = east-transfers (suc i) j hi (omega arith) x;
-      aboveL = east-transfers (suc i) (suc j) hi hj x;
-      belowK = east-transfers i j (omega arith) (omega arith) x;
-      belowL = east-transfers i (suc j) (omega arith) hj x;
+      own = north-transfers i (suc j) hi x;
+      ahead = north-transfers i (suc (suc j)) hi x;
+      behind = north-transfers i j hi x;
+      aboveK = east-transfers (suc i) j (omega arith) x;
+      aboveL = east-transfers (suc i) (suc j) hj x;
+      belowK = east-transfers i j (omega arith) x;
+      belowL = east-transfers i (suc j) hj x;
       u = 𝓢 .north i (suc j) hi (omega arith) x;
       uAhead = 𝓢 .north i (suc (suc j)) hi hj x;
       uBehind = 𝓢 .north i j hi (omega arith) x;
@@ -115,16 +112,15 @@ module _ (c : Card) (w w′ : Water) (𝓢 : Swapped c w w′) where
       uBelow = before-same (λ r. w .east (suc j) r) (λ r. w′ .north r (suc j)) i (λ r l. 𝓢 .north r (suc j) (omega arith) (omega arith)) x;
     }
 
-    pub new-easts : (i j : ℕ) → i ≤ c .rows → j < c .columns → newEast (swapCard c) g′ w′ i j ≡ newNorth c g w j i
-    unfolding newEast newNorth
-    new-easts zero j hi hj = refl
-    new-easts (suc k) j hi hj = cond-cong (ltb (suc k) (c .rows)) _ _ _ (λ t. rw (east-faces k j (ltb→lt (suc k) (c .rows) t) hj))
+    module _ (rule : Rule) where
+      pub new-easts : (i j : ℕ) → j < c .columns → newEast rule (swapCard c) g′ w′ i j ≡ newNorth rule c g w j i
+      unfolding newEast newNorth
+      new-easts i j hj = walled-same (c .rows) _ _ (λ k l. rw (east-faces k j l hj)) i
 
-    pub new-norths : (i j : ℕ) → i < c .rows → j ≤ c .columns → newNorth (swapCard c) g′ w′ i j ≡ newEast c g w j i
-    unfolding newEast newNorth
-    new-norths i zero hi hj = refl
-    new-norths i (suc k) hi hj = cond-cong (ltb (suc k) (c .columns)) _ _ _ (λ t. rw (north-faces i k hi (ltb→lt (suc k) (c .columns) t)))
+      pub new-norths : (i j : ℕ) → i < c .rows → newNorth rule (swapCard c) g′ w′ i j ≡ newEast rule c g w j i
+      unfolding newEast newNorth
+      new-norths i j hi = walled-same (c .columns) _ _ (λ k l. rw (north-faces i k hi l)) j
 
-    pub next-swapped : Swapped c (next c g w) (next (swapCard c) g′ w′)
-    unfolding next
-    next-swapped = record { height = new-heights; east = new-easts; north = new-norths }
+      pub next-swapped : Swapped c (next rule c g w) (next rule (swapCard c) g′ w′)
+      unfolding next
+      next-swapped = record { height = new-heights; east = λ i j hi hj. new-easts i j hj; north = λ i j hi hj. new-norths i j hi }

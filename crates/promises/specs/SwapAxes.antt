@@ -4,7 +4,7 @@ use mathlib.Core.List.{List}
 use lib.IntN.{ℤ}
 use Rattle.rules.specs.declared.Card.{Card}
 use Rattle.rules.specs.Site.{within, sizesFit, sidesFit, timesFit, cardFits, readGround, readState, check}
-use Rattle.rules.specs.Step.{next, stepNumber, nextState}
+use Rattle.rules.specs.Step.{newVelocity, next, stepNumberBy, stepNumber, nextStateBy, nextState}
 use Rattle.rules.specs.Run.{peak}
 use Rattle.rules.specs.Turn.{swapAxes, swapCard}
 use Rattle.laws.specs.Tests.{and-comm}
@@ -30,10 +30,10 @@ module _ (c : Card) (g s : List ℤ) where
   }
 
   next-swapped : nextState (swapCard c) (swapAxes .ground c g) (swapAxes .state c s) ≡ swapAxes .state c (nextState c g s)
-  unfolding nextState
+  unfolding nextState nextStateBy
   next-swapped =
-      let n = next c (readGround c g) (readState c s) in
-      let m = S.next-swapped c (readState c s) (readState (swapCard c) (swapAxes .state c s)) state-swapped (readGround c g) (readGround (swapCard c) (swapAxes .ground c g)) ground-swapped in
+      let n = next newVelocity c (readGround c g) (readState c s) in
+      let m = S.next-swapped c (readState c s) (readState (swapCard c) (swapAxes .state c s)) state-swapped (readGround c g) (readGround (swapCard c) (swapAxes .ground c g)) ground-swapped newVelocity in
       write-same (swapCard c) _ _ (record {
         height = λ i j hi hj. m .height i j hi hj ∙ sym (height-back c n j i hj hi);
         east = λ i j hi hj. m .east i j hi hj ∙ sym (north-back c n j i hj hi);
@@ -47,8 +47,8 @@ module _ (c : Card) (g s : List ℤ) where
       (λ i j hi hj. (j, i, hj, hi, sym (state-swapped .height j i hj hi)))
 
   number-swapped : stepNumber (swapCard c) (swapAxes .ground c g) (swapAxes .state c s) ≡ stepNumber c g s
-  unfolding stepNumber
-  number-swapped = numbers c (readState c s) (readState (swapCard c) (swapAxes .state c s)) state-swapped (readGround c g) (readGround (swapCard c) (swapAxes .ground c g)) ground-swapped
+  unfolding stepNumber stepNumberBy
+  number-swapped = numbers c (readState c s) (readState (swapCard c) (swapAxes .state c s)) state-swapped (readGround c g) (readGround (swapCard c) (swapAxes .ground c g)) ground-swapped newVelocity
 
   card-swapped : cardFits (swapCard c) ≡ cardFits c
   unfolding cardFits sizesFit sidesFit timesFit

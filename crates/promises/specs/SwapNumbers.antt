@@ -6,7 +6,7 @@ use native.Mathlib.Omega.{arith}
 use Rattle.rules.specs.declared.Card.{Card}
 use Rattle.rules.specs.Grid.{Field}
 use Rattle.rules.specs.Site.{Water, groundsFit, heightsFit, velocitiesFit, wallsStill, valuesFit}
-use Rattle.rules.specs.Step.{withinLimit, limitKept, newHeightsFit, sharesFit, newVelocitiesFit, number}
+use Rattle.rules.specs.Step.{Rule, withinLimit, limitKept, newHeightsFit, sharesFit, newVelocitiesFit, number}
 use Rattle.rules.specs.Turn.{swapCard}
 use Rattle.laws.specs.Tests.{and-cross}
 use Rattle.laws.specs.Grids.{allAt-swap, all-same}
@@ -29,16 +29,17 @@ module _ (c : Card) (w w′ : Water) (𝓢 : Swapped c w w′) (g g′ : Field) 
       (allAt-swap (c .columns) (c .rows - 1) _ _ (λ i j hi hj. rw (S.east-faces c w w′ 𝓢 g g′ 𝓖 i j (omega arith) hj)))
       (allAt-swap (c .columns - 1) (c .rows) _ _ (λ i j hi hj. rw (S.north-faces c w w′ 𝓢 g g′ 𝓖 i j hi (omega arith))))
 
-  speeds-same : newVelocitiesFit (swapCard c) g′ w′ ≡ newVelocitiesFit c g w
-  unfolding newVelocitiesFit
-  speeds-same =
-      and-cross
-      (allAt-swap (c .columns) (suc (c .rows)) _ _ (λ i j hi hj. rw (S.new-easts c w w′ 𝓢 g g′ 𝓖 i j (omega arith) hj)))
-      (allAt-swap (suc (c .columns)) (c .rows) _ _ (λ i j hi hj. rw (S.new-norths c w w′ 𝓢 g g′ 𝓖 i j hi (omega arith))))
+  module _ (rule : Rule) where
+    speeds-same : newVelocitiesFit rule (swapCard c) g′ w′ ≡ newVelocitiesFit rule c g w
+    unfolding newVelocitiesFit
+    speeds-same =
+        and-cross
+        (allAt-swap (c .columns) (suc (c .rows)) _ _ (λ i j hi hj. rw (S.new-easts c w w′ 𝓢 g g′ 𝓖 rule i j hj)))
+        (allAt-swap (suc (c .columns)) (c .rows) _ _ (λ i j hi hj. rw (S.new-norths c w w′ 𝓢 g g′ 𝓖 rule i j hi)))
 
-  pub numbers : number (swapCard c) g′ w′ ≡ number c g w
-  unfolding number
-  numbers = rw (limit-same, heights-same, shares-same, speeds-same)
+    pub numbers : number rule (swapCard c) g′ w′ ≡ number rule c g w
+    unfolding number
+    numbers = rw (limit-same, heights-same, shares-same, speeds-same)
 
   pub values-same : valuesFit (swapCard c) g′ w′ ≡ valuesFit c g w
   unfolding valuesFit groundsFit heightsFit velocitiesFit wallsStill

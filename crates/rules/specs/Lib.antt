@@ -1,8 +1,6 @@
 pub mod Grid
 pub mod Site
 pub mod Step
-pub mod Signs
-pub mod Fair
 pub mod Run
 pub mod Turn
 pub mod Search

@@ -7,7 +7,7 @@ use lib.IntN.{ℤ, pos, negℤ}
 use Rattle.rules.specs.declared.Card.{Card}
 use Rattle.rules.specs.Grid.{tabulate, grid, all, allAt, greatest}
 use Rattle.rules.specs.Site.{readGround, readState, writeState, stateLength, sizesFit, sidesFit, timesFit, cardFits, lengthsFit, groundsFit, heightsFit, velocitiesFit, wallsStill, valuesFit, firstOf, checkWith, firstRefusal, ifDone}
-use Rattle.rules.specs.Step.{transfer, eastTransfer, northTransfer, withinLimit, newHeight, after, before, eastFace, northFace, outAhead, outBehind, outAbove, outBelow, positive, ownShare, brought, carried, slope, newVelocity, newEast, newNorth, next, limitKept, newHeightsFit, sharesFit, newVelocitiesFit, answer, number, stepNumber, nextState}
+use Rattle.rules.specs.Step.{walled, transfer, eastTransfer, northTransfer, withinLimit, newHeight, after, before, eastFace, northFace, outAhead, outBehind, outAbove, outBelow, positive, ownShare, brought, carried, rise, slope, newVelocity, newEast, newNorth, next, limitKept, newHeightsFit, sharesFit, newVelocitiesFit, answer, number, stepNumberBy, nextStateBy, stepNumber, nextState}
 use Rattle.rules.specs.Text.{digitsOf, decimal, heightText, depthText}
 use Rattle.rules.specs.Calls.{stepAnswer, stepNext}
 
@@ -42,9 +42,9 @@ pub record Starred : Type 0 where
   -- the middle at 10,000,000 empties the west cell; one more breaks the step limit
   pub emptied : Steps 2 (flat 2) (two (pos 2000000) (pos 1000000) (pos 10000000)) (two (pos 0) (pos 3000000) (pos 391338))
   pub over-limit : Refuses 2 (flat 2) (two (pos 2000000) (pos 1000000) (pos 10000001)) 4
-  -- from height 3 at 5,000,000: 1; at -5,000,000: -1, not -2
-  pub transfer-east : transfer 100 1000000 (pos 3) (pos 3) (pos 5000000) ≡ pos 1
-  pub transfer-west : transfer 100 1000000 (pos 3) (pos 3) (negℤ (pos 5000000)) ≡ negℤ (pos 1)
+  -- from height 3 at 5,000,000: 1; at -5,000,000: -1, not -2; the water comes from K, or from L, and the other cell is dry
+  pub transfer-east : transfer 100 1000000 (pos 3) (pos 0) (pos 5000000) ≡ pos 1
+  pub transfer-west : transfer 100 1000000 (pos 0) (pos 3) (negℤ (pos 5000000)) ≡ negℤ (pos 1)
   -- a pond over uneven ground lies still
   pub still-pond : Steps 3 (pos 0 ∷ pos 400000 ∷ pos 100000 ∷ []) (three (pos 1000000) (pos 600000) (pos 900000)) (three (pos 1000000) (pos 600000) (pos 900000))
   -- a dry bank
@@ -56,7 +56,7 @@ pub record Starred : Type 0 where
   pub text-15000 : depthText (pos 15000) ≡ 50 ∷ 32 ∷ 99 ∷ 109 ∷ []
 
 pub starred : Starred
-unfolding row flat two three tabulate grid all allAt greatest readGround readState writeState stateLength sizesFit sidesFit timesFit cardFits lengthsFit groundsFit heightsFit velocitiesFit wallsStill valuesFit firstOf checkWith firstRefusal ifDone transfer eastTransfer northTransfer withinLimit newHeight after before eastFace northFace outAhead outBehind outAbove outBelow positive ownShare brought carried slope newVelocity newEast newNorth next limitKept newHeightsFit sharesFit newVelocitiesFit answer number stepNumber nextState digitsOf decimal heightText depthText stepAnswer stepNext
+unfolding row flat two three tabulate grid all allAt greatest readGround readState writeState stateLength sizesFit sidesFit timesFit cardFits lengthsFit groundsFit heightsFit velocitiesFit wallsStill valuesFit firstOf checkWith firstRefusal ifDone walled transfer eastTransfer northTransfer withinLimit newHeight after before eastFace northFace outAhead outBehind outAbove outBelow positive ownShare brought carried rise slope newVelocity newEast newNorth next limitKept newHeightsFit sharesFit newVelocitiesFit answer number stepNumberBy nextStateBy stepNumber nextState digitsOf decimal heightText depthText stepAnswer stepNext
 starred = record {
   first-step = (refl, refl);
   second-step = (refl, refl);

@@ -10,6 +10,13 @@ use Rattle.rules.specs.declared.Face.{Face}
 use Rattle.rules.specs.Grid.{Field, allAt}
 use Rattle.rules.specs.Site.{Water, readGround, readState, writeState, speedFits, isZero}
 
+-- ---- Walls and inner faces along a row or a column of n cells
+
+-- Faces 0 and n are the walls: 0 there. Face k + 1 lies between the cells k (its K) and k + 1 (its L): f k there.
+unfoldable pub walled : (n : ℕ) (f : ℕ → ℤ) → ℕ → ℤ
+walled n f zero = pos 0
+walled n f (suc k) = cond (ltb (suc k) n) (f k) (pos 0)
+
 -- ---- Transfer: what crosses a face in one step, (10) with its upwind choice
 
 -- the sign of u, and the size floor(h · |u| · dt / (1000 · d)), h being K's height if u > 0, L's if u < 0
@@ -20,14 +27,10 @@ transfer dt d hK hL (negsuc n) = negℤ (pos (natAbs hL * suc n * dt / (1000 * d
 
 -- over each eastward and each northward face; 0 on walls
 unfoldable pub eastTransfer : Card → Water → Field
-eastTransfer c w zero j = pos 0
-eastTransfer c w (suc i) j =
-    cond (ltb (suc i) (c .columns)) (transfer (c .dt) (c .dx) (w .height i j) (w .height (suc i) j) (w .east (suc i) j)) (pos 0)
+eastTransfer c w i j = walled (c .columns) (λ k. transfer (c .dt) (c .dx) (w .height k j) (w .height (suc k) j) (w .east (suc k) j)) i
 
 unfoldable pub northTransfer : Card → Water → Field
-northTransfer c w i zero = pos 0
-northTransfer c w i (suc j) =
-    cond (ltb (suc j) (c .rows)) (transfer (c .dt) (c .dy) (w .height i j) (w .height i (suc j)) (w .north i (suc j))) (pos 0)
+northTransfer c w i j = walled (c .rows) (λ k. transfer (c .dt) (c .dy) (w .height i k) (w .height i (suc k)) (w .north i (suc k))) j
 
 -- ---- Step limit, (18) multiplied out: dt · ((|west| + |east|) · dy + (|south| + |north|) · dx) ≤ 1000 · dx · dy
 
@@ -42,9 +45,22 @@ unfoldable pub newHeight : Card → Water → Field
 newHeight c w i j =
     w .height i j +ℤ eastTransfer c w i j -ℤ eastTransfer c w (suc i) j +ℤ northTransfer c w i j -ℤ northTransfer c w i (suc j)
 
--- ---- The numbers around one inner face
+-- ---- The numbers around one inner face, between its cells K and L
+--
+--                        uAbove
+--                   aboveK    aboveL
+--                 +---------+---------+
+--        uBehind  |         |         |  uAhead         face          along: from behind to ahead   across: from below to above
+--         behind  |    K   own   L    |  ahead          eastward      from west to east             from south to north
+--                 |         u         |                 northward     from south to north           from west to east
+--                 +---------+---------+
+--                   belowK    belowL
+--                        uBelow
+--
+-- `own`, `ahead`, `behind`, `aboveK` .. `belowL` are what crosses the faces drawn; `u`, `uAhead`, `uBehind`, `uAbove`, `uBelow` are the velocities of the face
+-- and of its parallel faces.
 
--- f of the next row (or column) after j, of n in all, and of the one before j; beyond a side wall there is no face
+-- of f in each row (or column) of n: that after j, and that before j; beyond a side wall there is no face, and 0
 unfoldable pub after : ℕ → (ℕ → ℤ) → ℕ → ℤ
 after n f j = cond (ltb (suc j) n) (f (suc j)) (pos 0)
 
@@ -61,16 +77,20 @@ eastFace c g w i j = record {
   newL = newHeight c w (suc i) j;
   groundK = g i j;
   groundL = g (suc i) j;
+  -- the face itself, the next ones east and west; a wall gives 0
   own = eastTransfer c w (suc i) j;
   ahead = eastTransfer c w (suc (suc i)) j;
   behind = eastTransfer c w i j;
+  -- north of K and of L, south of K and of L; a wall gives 0
   aboveK = northTransfer c w i (suc j);
   aboveL = northTransfer c w (suc i) (suc j);
   belowK = northTransfer c w i j;
   belowL = northTransfer c w (suc i) j;
+  -- the face itself, the next ones east and west; a wall gives 0, by the third check
   u = w .east (suc i) j;
   uAhead = w .east (suc (suc i)) j;
   uBehind = w .east i j;
+  -- the faces north and south of it; beyond the last row and before the first there is none
   uAbove = after (c .rows) (λ r. w .east (suc i) r) j;
   uBelow = before (λ r. w .east (suc i) r) j;
 }
@@ -84,16 +104,20 @@ northFace c g w i j = record {
   newL = newHeight c w i (suc j);
   groundK = g i j;
   groundL = g i (suc j);
+  -- the face itself, the next ones north and south; a wall gives 0
   own = northTransfer c w i (suc j);
   ahead = northTransfer c w i (suc (suc j));
   behind = northTransfer c w i j;
+  -- east of K and of L, west of K and of L; a wall gives 0
   aboveK = eastTransfer c w (suc i) j;
   aboveL = eastTransfer c w (suc i) (suc j);
   belowK = eastTransfer c w i j;
   belowL = eastTransfer c w i (suc j);
+  -- the face itself, the next ones north and south; a wall gives 0, by the third check
   u = w .north i (suc j);
   uAhead = w .north i (suc (suc j));
   uBehind = w .north i j;
+  -- the faces east and west of it; beyond the last column and before the first there is none
   uAbove = after (c .columns) (λ r. w .north r (suc j)) i;
   uBelow = before (λ r. w .north r (suc j)) i;
 }
@@ -122,7 +146,7 @@ positive (negsuc n) = pos 0
 unfoldable pub ownShare : Face → ℤ
 ownShare f = f .oldK +ℤ f .oldL -ℤ (positive (outAhead f) +ℤ positive (outBehind f) +ℤ (positive (outAbove f) +ℤ positive (outBelow f)))
 
--- flow in, times the velocity of the parallel face that it comes from; a wall face gives 0, since the first three checks leave 0 on every wall
+-- flow in, times the velocity of the parallel face that it comes from; a wall face gives 0, its velocity being 0
 unfoldable pub brought : (out v : ℤ) → ℤ
 brought out v = positive (negℤ out) *ℤ v
 
@@ -135,8 +159,12 @@ carried f =
 -- ---- Slope: the pressure and ground terms of (7d), with (7c) and (17), taken together; H' cancels.
 -- S = trunc(9,806,650 · dt · ((hL' + zL) − (hK' + zK)) / (1000 · d)); `quotZ` is the quotient towards zero
 
+-- how much higher the new surface stands in L than in K
+unfoldable pub rise : Face → ℤ
+rise f = f .newL +ℤ f .groundL -ℤ (f .newK +ℤ f .groundK)
+
 unfoldable pub slope : (dt d : ℕ) → Face → ℤ
-slope dt d f = quotZ (pos (9806650 * dt) *ℤ (f .newL +ℤ f .groundL -ℤ (f .newK +ℤ f .groundK))) (pos (1000 * d))
+slope dt d f = quotZ (pos (9806650 * dt) *ℤ rise f) (pos (1000 * d))
 
 -- ---- New velocity, (7d): 0 if H' = 0, otherwise trunc(A / H') − S
 
@@ -144,18 +172,21 @@ unfoldable pub newVelocity : (dt d : ℕ) → Face → ℤ
 newVelocity dt d f =
     cond (isZero (f .newK +ℤ f .newL)) (pos 0) (quotZ (carried f) (f .newK +ℤ f .newL) -ℤ slope dt d f)
 
--- of each eastward and each northward face; walls stay 0
-unfoldable pub newEast : Card → Field → Water → Field
-newEast c g w zero j = pos 0
-newEast c g w (suc i) j = cond (ltb (suc i) (c .columns)) (newVelocity (c .dt) (c .dx) (eastFace c g w i j)) (pos 0)
+-- ---- The next state, over the rule that gives an inner face its new velocity. Document 01's rule is `newVelocity`.
 
-unfoldable pub newNorth : Card → Field → Water → Field
-newNorth c g w i zero = pos 0
-newNorth c g w i (suc j) = cond (ltb (suc j) (c .rows)) (newVelocity (c .dt) (c .dy) (northFace c g w i j)) (pos 0)
+abbrev pub Rule : Type 0
+Rule = (dt d : ℕ) → Face → ℤ
+
+-- of each eastward and each northward face; walls stay 0
+unfoldable pub newEast : Rule → Card → Field → Water → Field
+newEast rule c g w i j = walled (c .columns) (λ k. rule (c .dt) (c .dx) (eastFace c g w k j)) i
+
+unfoldable pub newNorth : Rule → Card → Field → Water → Field
+newNorth rule c g w i j = walled (c .rows) (λ k. rule (c .dt) (c .dy) (northFace c g w i k)) j
 
 -- heights come first; velocities use old transfers and new heights
-unfoldable pub next : Card → Field → Water → Water
-next c g w = record { height = newHeight c w; east = newEast c g w; north = newNorth c g w }
+unfoldable pub next : Rule → Card → Field → Water → Water
+next rule c g w = record { height = newHeight c w; east = newEast rule c g w; north = newNorth rule c g w }
 
 -- ---- The step's number: 0, or the lowest of 4 to 7 that applies
 
@@ -174,10 +205,10 @@ sharesFit c g w =
     && allAt (c .columns) (c .rows - 1) (λ i j. leZ (pos 0) (ownShare (northFace c g w i j)))
 
 -- 7: some new velocity lies outside its range
-unfoldable pub newVelocitiesFit : Card → Field → Water → Bool
-newVelocitiesFit c g w =
-    allAt (suc (c .columns)) (c .rows) (λ i j. speedFits (newEast c g w i j))
-    && allAt (c .columns) (suc (c .rows)) (λ i j. speedFits (newNorth c g w i j))
+unfoldable pub newVelocitiesFit : Rule → Card → Field → Water → Bool
+newVelocitiesFit rule c g w =
+    allAt (suc (c .columns)) (c .rows) (λ i j. speedFits (newEast rule c g w i j))
+    && allAt (c .columns) (suc (c .rows)) (λ i j. speedFits (newNorth rule c g w i j))
 
 unfoldable pub answer : (limit heights shares speeds : Bool) → ℕ
 answer false h s v = 4
@@ -186,13 +217,20 @@ answer true true false v = 6
 answer true true true false = 7
 answer true true true true = 0
 
-unfoldable pub number : Card → Field → Water → ℕ
-number c g w = answer (limitKept c w) (newHeightsFit c w) (sharesFit c g w) (newVelocitiesFit c g w)
+unfoldable pub number : Rule → Card → Field → Water → ℕ
+number rule c g w = answer (limitKept c w) (newHeightsFit c w) (sharesFit c g w) (newVelocitiesFit rule c g w)
 
 -- ---- One step of a site that passes the first three checks: its number, and its next state
 
+unfoldable pub stepNumberBy : Rule → Card → (ground state : List ℤ) → ℕ
+stepNumberBy rule c g s = number rule c (readGround c g) (readState c s)
+
+unfoldable pub nextStateBy : Rule → Card → (ground state : List ℤ) → List ℤ
+nextStateBy rule c g s = writeState c (next rule c (readGround c g) (readState c s))
+
+-- document 01's step
 unfoldable pub stepNumber : Card → (ground state : List ℤ) → ℕ
-stepNumber c g s = number c (readGround c g) (readState c s)
+stepNumber = stepNumberBy newVelocity
 
 unfoldable pub nextState : Card → (ground state : List ℤ) → List ℤ
-nextState c g s = writeState c (next c (readGround c g) (readState c s))
+nextState = nextStateBy newVelocity

@@ -9,7 +9,7 @@ use lib.IntN.{ℤ}
 use lib.ListN.{length, drop}
 use Rattle.rules.specs.declared.Card.{Card}
 use Rattle.rules.specs.Site.{readGround, readState, stateLength, check}
-use Rattle.rules.specs.Step.{limitKept, newHeightsFit, sharesFit, newVelocitiesFit, answer, number, stepNumber, nextState}
+use Rattle.rules.specs.Step.{limitKept, newHeightsFit, sharesFit, newVelocity, newVelocitiesFit, answer, number, stepNumberBy, stepNumber, nextState}
 use Rattle.laws.specs.Reading.{Holds}
 use Rattle.laws.specs.Tested.{Filled}
 use Rattle.heights.specs.Tide.{tide, crossings, tideFits}
@@ -26,7 +26,7 @@ module _ {c : Card} {g s t n : List ℤ} (ready : Ready c g s t n) where
 module _ {c : Card} {g s t n : List ℤ} (ready : Ready c g s t n) {kept : Bool} (looked : kept ≡ limitKept c (readState c s)) where
   -- 4
   pub limit-broken : {m : List ℤ} → not kept ≡ true → Advanced c g s 4 m
-  unfolding stepNumber number answer
+  unfolding stepNumber stepNumberBy number answer
   limit-broken b = let l : limitKept c (readState c s) ≡ false = sym looked ∙ not-true kept b in record { number = rw l; state = λ e. absurd (suc-ne-zero 3 e) }
 
   pub limited : not kept ≡ false → Limited c s
@@ -45,7 +45,7 @@ module _ {c : Card} {s t : List ℤ} (limited : Limited c s) (holds : Holds c (t
 
   -- 5
   pub height-broken : not fit ≡ true → {g m : List ℤ} → Advanced c g s 5 m
-  unfolding stepNumber number answer
+  unfolding stepNumber stepNumberBy number answer
   height-broken b =
       let h : newHeightsFit c (readState c s) ≡ false = sym fit-is ∙ not-true fit b in
       record { number = rw (limited .limit, h); state = λ e. absurd (suc-ne-zero 4 e) }
@@ -57,26 +57,26 @@ module _ {c : Card} {s t : List ℤ} (limited : Limited c s) (holds : Holds c (t
 module _ {c : Card} {g s t : List ℤ} (flowing : Flowing c g s t) {shared : Bool} (looked : shared ≡ sharesFit c (readGround c g) (readState c s)) where
   -- 6
   pub share-broken : {m : List ℤ} → not shared ≡ true → Advanced c g s 6 m
-  unfolding stepNumber number answer
+  unfolding stepNumber stepNumberBy number answer
   share-broken b =
       let r : sharesFit c (readGround c g) (readState c s) ≡ false = sym looked ∙ not-true shared b in
       record { number = rw (flowing .limit, flowing .heights, r); state = λ e. absurd (suc-ne-zero 5 e) }
 
-  module _ (share : not shared ≡ false) {fast : Bool} {m : List ℤ} (filled : Filled (newVelocitiesFit c (readGround c g) (readState c s)) (nextState c g s) fast m) where
+  module _ (share : not shared ≡ false) {fast : Bool} {m : List ℤ} (filled : Filled (newVelocitiesFit newVelocity c (readGround c g) (readState c s)) (nextState c g s) fast m) where
     shares-fit : sharesFit c (readGround c g) (readState c s) ≡ true
     shares-fit = sym looked ∙ not-false shared share
 
     -- 7
     pub speed-broken : not fast ≡ true → Advanced c g s 7 m
-    unfolding stepNumber number answer
+    unfolding stepNumber stepNumberBy number answer
     speed-broken b =
-        let v : newVelocitiesFit c (readGround c g) (readState c s) ≡ false = sym (filled .every-one) ∙ not-true fast b in
+        let v : newVelocitiesFit newVelocity c (readGround c g) (readState c s) ≡ false = sym (filled .every-one) ∙ not-true fast b in
         record { number = rw (flowing .limit, flowing .heights, shares-fit, v); state = λ e. absurd (suc-ne-zero 6 e) }
 
     -- 0
     pub all-kept : not fast ≡ false → Advanced c g s 0 m
-    unfolding stepNumber number answer
+    unfolding stepNumber stepNumberBy number answer
     all-kept b =
         let yes : fast ≡ true = not-false fast b in
-        let v : newVelocitiesFit c (readGround c g) (readState c s) ≡ true = sym (filled .every-one) ∙ yes in
+        let v : newVelocitiesFit newVelocity c (readGround c g) (readState c s) ≡ true = sym (filled .every-one) ∙ yes in
         record { number = rw (flowing .limit, flowing .heights, shares-fit, v); state = λ e. filled .is yes }

@@ -1,6 +1,6 @@
 // One step of a site that passes the first three checks, with a tide to work in.
 ghost use Rattle.rules.specs.Site.{readGround, readState};
-ghost use Rattle.rules.specs.Step.{newVelocitiesFit, nextState};
+ghost use Rattle.rules.specs.Step.{newVelocity, newVelocitiesFit, nextState};
 ghost use Rattle.laws.specs.Tested.{Filled};
 ghost use Rattle.step.specs.Advance.{Ready, NextRoom, Advanced};
 use rules::Card;
@@ -8,7 +8,7 @@ use rules::Card;
 // Fills the next state: its heights from the tide, and the velocities behind them. Where a velocity does not fit, nothing is promised of its words.
 fn fill_next(card: Card, ground: &[i32], state: &[i32], tide: &[i32], next: &mut [i32]) -> bool
     requires { ⌜ NextRoom card (now ground) (now state) (now tide) (now next) ⌝ }
-    ensures { λ r. ⌜ Filled (newVelocitiesFit card (readGround card (now (ground .entry))) (readState card (now (state .entry)))) (nextState card (now (ground .entry)) (now (state .entry))) r (now (next .exit)) ⌝ }
+    ensures { λ r. ⌜ Filled (newVelocitiesFit newVelocity card (readGround card (now (ground .entry))) (readState card (now (state .entry)))) (nextState card (now (ground .entry)) (now (state .entry))) r (now (next .exit)) ⌝ }
 {
     let columns = card.columns as usize;
     let rows = card.rows as usize;

@@ -6,14 +6,14 @@ use mathlib.Core.List.{List}
 use native.Mathlib.Omega.{arith}
 use lib.IntN.{ℤ, pos}
 use lib.Signed.{leZ}
-use lib.Dec.{ltb}
 use Rattle.rules.specs.declared.Card.{Card}
 use Rattle.rules.specs.Site.{Water, readGround, readState}
-use Rattle.rules.specs.Step.{after, before, newHeight, newHeightsFit}
+use Rattle.rules.specs.Step.{walled, after, before, newHeight, newHeightsFit}
 use Rattle.laws.specs.Tests.{to-T}
 use Rattle.laws.specs.Grids.{allAt-at}
 use Rattle.laws.specs.Sizes.{Within}
-use Rattle.laws.specs.Bounded.{inner-within, new-low}
+use Rattle.laws.specs.Walls.{behind-has}
+use Rattle.laws.specs.Bounded.{new-low}
 use Rattle.face.specs.Ranges.{Height, Ground, Speed, Transfer, FaceFits}
 use Rattle.heights.specs.Ways.{speeds, transfers}
 use Rattle.heights.proofs.Sites.{facts, depths, height-fits, speed-fits, crossed}
@@ -26,8 +26,8 @@ use Rattle.velocities.proofs.Flows.{sound-of}
 -- beside a face stands another one, or a wall
 module _ {N : ℕ} (f : ℕ → ℤ) (h : (k : ℕ) → Within N (f k)) where
   after-within : (n k : ℕ) → Within N (after n f k)
-  unfolding after
-  after-within n k = inner-within (ltb (suc k) n) (λ t. h (suc k))
+  unfolding after walled
+  after-within n k = behind-has n (λ i. f (suc i)) (Within N) (record { size = zero-le }) k (λ l. h (suc k))
 
   before-within : (k : ℕ) → Within N (before f k)
   unfolding before

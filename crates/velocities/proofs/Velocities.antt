@@ -8,7 +8,7 @@ use lib.IntN.{ℤ, pos}
 use Rattle.rules.specs.declared.Card.{Card}
 use Rattle.rules.specs.Site.{readGround, readState}
 use Rattle.rules.specs.Step.{newVelocity, newEast, newNorth}
-use Rattle.laws.specs.Lines.{inner-is}
+use Rattle.laws.specs.Lines.{walled-is}
 use Rattle.heights.specs.Ways.{across, up, side, isWall, back}
 use Rattle.heights.specs.Places.{FaceIn}
 use Rattle.velocities.specs.Faces.{innerFace}
@@ -18,5 +18,5 @@ pub new-is : (c : Card) (g s : List ℤ) (east : Bool) {i j : ℕ} → FaceIn c 
     → newSpeeds c g s east i j
     ≡ cond (isWall c east i j) (pos 0) (newVelocity (c .dt) (side c east) (innerFace c (readGround c g) (readState c s) east (back east i) (back (not east) j)))
 unfolding newSpeeds newEast newNorth innerFace across up side isWall back
-new-is c g s true {i} {j} p = let h : i ≤ c .columns = omega arith in inner-is (c .columns) _ (λ n. newEast c (readGround c g) (readState c s) n j) refl (λ n. refl) i h
-new-is c g s false {i} {j} p = let h : j ≤ c .rows = omega arith in inner-is (c .rows) _ (λ n. newNorth c (readGround c g) (readState c s) i n) refl (λ n. refl) j h
+new-is c g s true {i} {j} p = let h : i ≤ c .columns = omega arith in walled-is (c .columns) _ i h
+new-is c g s false {i} {j} p = let h : j ≤ c .rows = omega arith in walled-is (c .rows) _ j h

@@ -8,7 +8,7 @@ use lib.ListN.{length}
 use Rattle.rules.specs.declared.Card.{Card}
 use Rattle.rules.specs.Grid.{Field, grid}
 use Rattle.rules.specs.Site.{readGround, readState}
-use Rattle.rules.specs.Step.{newEast, newNorth}
+use Rattle.rules.specs.Step.{newVelocity, newEast, newNorth}
 use Rattle.heights.specs.Places.{FaceIn}
 use Rattle.velocities.specs.Faces.{Flowing}
 
@@ -24,11 +24,11 @@ pub record Room (c : Card) (g s t : List ℤ) (n : ℕ) (part : List ℤ) : Type
 
 -- the new velocities of the faces that point one way, eastward (`true`) or northward (`false`)
 unfoldable pub newSpeeds : Card → (ground state : List ℤ) → Bool → Field
-newSpeeds c g s true = newEast c (readGround c g) (readState c s)
-newSpeeds c g s false = newNorth c (readGround c g) (readState c s)
+newSpeeds c g s true = newEast newVelocity c (readGround c g) (readState c s)
+newSpeeds c g s false = newNorth newVelocity c (readGround c g) (readState c s)
 
 -- and of both, as they stand behind the heights of the next state
 unfoldable pub nextVelocities : Card → (ground state : List ℤ) → List ℤ
 nextVelocities c g s =
-    grid (suc (c .columns)) (c .rows) (newEast c (readGround c g) (readState c s))
-    ++ grid (c .columns) (suc (c .rows)) (newNorth c (readGround c g) (readState c s))
+    grid (suc (c .columns)) (c .rows) (newEast newVelocity c (readGround c g) (readState c s))
+    ++ grid (c .columns) (suc (c .rows)) (newNorth newVelocity c (readGround c g) (readState c s))

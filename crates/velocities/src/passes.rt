@@ -7,7 +7,7 @@ ghost use mathlib.Core.Path.{_≡_};
 ghost use Prim.Native.Nat.{suc, _+_, _*_};
 ghost use Rattle.rules.specs.Grid.{grid, allAt};
 ghost use Rattle.rules.specs.Site.{readGround, readState, speedFits};
-ghost use Rattle.rules.specs.Step.{newVelocitiesFit};
+ghost use Rattle.rules.specs.Step.{newVelocity, newVelocitiesFit};
 ghost use Rattle.laws.specs.Tested.{Filled};
 ghost use Rattle.heights.specs.Ways as Ways;
 ghost use Rattle.velocities.specs.Velocities.{OnFace, Room, newSpeeds, nextVelocities};
@@ -66,7 +66,7 @@ fn pass(
 // Both, in the part of the next state that starts behind the heights. Where one is out of range, nothing is promised of the part's words.
 pub fn velocities(card: Card, ground: &[i32], state: &[i32], tide: &[i32], part: &mut [i32]) -> bool
     requires { ⌜ Room card (now ground) (now state) (now tide) (card .rows * suc (card .columns) + suc (card .rows) * card .columns) (now part) ⌝ }
-    ensures { λ r. ⌜ Filled (newVelocitiesFit card (readGround card (now (ground .entry))) (readState card (now (state .entry)))) (nextVelocities card (now (ground .entry)) (now (state .entry))) r (now (part .exit)) ⌝ }
+    ensures { λ r. ⌜ Filled (newVelocitiesFit newVelocity card (readGround card (now (ground .entry))) (readState card (now (state .entry)))) (nextVelocities card (now (ground .entry)) (now (state .entry))) r (now (part .exit)) ⌝ }
 {
     let columns = card.columns as usize;
     let rows = card.rows as usize;

@@ -7,7 +7,7 @@ use lib.IntN.{ℤ}
 use lib.ListN.{length, take, drop}
 use lib.Seq.{length-front}
 use Rattle.rules.specs.Site.{writeState}
-use Rattle.rules.specs.Step.{next, nextState}
+use Rattle.rules.specs.Step.{next, nextStateBy, nextState}
 use Rattle.laws.specs.Grids.{length-grid}
 use Rattle.laws.specs.Places.{Room, room}
 use Rattle.laws.specs.Parts.{two-parts, length-part, back-length}
@@ -89,7 +89,7 @@ same-length : tie.Need-same-length
 same-length c = search needs
 
 returns : tie.Need-returns
-unfolding nextState next writeState tide nextVelocities
+unfolding nextState nextStateBy next writeState tide nextVelocities
 returns c =
     let start = c .before .before .before .before .before .before .before .before .before in
     let p = start .pre .flowing .tide .is in

@@ -30,3 +30,7 @@ pub +ℤ-left-comm : (a b c : ℤ) → a +ℤ (b +ℤ c) ≡ b +ℤ (a +ℤ c)
 
 -- sums, sorted, with the signs at their leaves
 pub ruleset sums = (+ℤ-assoc, +ℤ-comm, +ℤ-left-comm, negℤ-+ℤ, negℤ-negℤ, neg-mul, mul-neg)
+
+-- a difference taken the other way round
+pub turned-difference : (a b : ℤ) → a +ℤ negℤ b ≡ negℤ (b +ℤ negℤ a)
+turned-difference a b = simp sums
