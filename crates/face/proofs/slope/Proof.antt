@@ -1,6 +1,6 @@
 use native.Mathlib.Omega.{arith}
 use mir.Syntax.{w32, w64}
-use Rattle.rules.specs.Step.{rise, slope}
+use Rattle.rules.specs.Step.{rise as Step·rise, slope}
 use Rattle.laws.specs.Exact.{Node, fits, value, divides, int, nat, lit, add, sub, mul, quot, cast}
 use Rattle.face.proofs.Bounds.{height-within}
 use Rattle.face.proofs.slope.Statement.{statement}
@@ -59,7 +59,7 @@ div-result : tie.Need-div-result
 div-result c = divides (top c) (below c) (omega (arith, start c .pre .side .low))
 
 returns : tie.Need-returns
-unfolding slope rise
+unfolding slope Step·rise
 returns c = value (quot (top c) (below c))
 
 pub slope-spec : {M : Type 1} → statement M
