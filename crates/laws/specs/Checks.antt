@@ -1,6 +1,7 @@
 -- The numbers of the checks taken apart and put together: 0 exactly where every test passes.
-use mathlib.Core.Path.{_≡_, refl}
-use mathlib.Core.Bool.{Bool, true, false}
+use Prim.Native.Nat.{ℕ}
+use mathlib.Core.Path.{_≡_, refl, sym}
+use mathlib.Core.Bool.{Bool, true, false, _&&_}
 use native.Mathlib.Nat.{suc-ne-zero}
 use lib.Dec.{T}
 use Rattle.rules.specs.Site.{firstOf}
@@ -22,6 +23,20 @@ apart true true true e = record { card = refl; lengths = refl; values = refl }
 pub together : {a l v : Bool} → Passed a l v → firstOf a l v ≡ 0
 unfolding firstOf
 together p = rw (p .card, p .lengths, p .values)
+
+-- a test for 2 that is made only where the card passes, since only then it can be made
+pub after-card : (one card two lengths values : Bool) → firstOf (one && card) ((card && two) && lengths) values ≡ firstOf (one && card) (two && lengths) values
+unfolding firstOf
+after-card true true two lengths values = refl
+after-card true false two lengths values = refl
+after-card false card two lengths values = refl
+
+-- the three, where the first two are looked at before the third
+pub by-front : (a l v : Bool) (k : ℕ) → k ≡ firstOf a l true → (k ≡ 0 → ⊥) → firstOf a l v ≡ k
+unfolding firstOf
+by-front false l v k e h = sym e
+by-front true false v k e h = sym e
+by-front true true v k e h = absurd (h e)
 
 -- ---- the four tests of a step
 

@@ -13,11 +13,11 @@ use borrow.Author.Tests.{ltb-true, ltb-false}
 use lib.Arith.{digits-lt}
 use Rattle.rules.specs.declared.Card.{Card}
 use Rattle.rules.specs.Grid.{all}
-use Rattle.rules.specs.Site.{within, sizesFit, sidesFit, timesFit, cardFits, stateLength, lengthsFit, readGround, readState, groundFits, heightFits, speedFits, groundsFit, heightsFit, velocitiesFit, wallsStill, valuesFit, firstOf, check, checkWith}
-use Rattle.laws.specs.Tests.{and-left, and-right, three-of, four-of, to-T, true-of}
+use Rattle.rules.specs.Site.{within, sizesFit, sidesFit, timesFit, cardFits, stateLength, lengthsFit, readGround, readState, groundFits, heightFits, speedFits, groundsFit, heightsFit, velocitiesFit, wallsStill, valuesFit, firstOf, checkAlso, check, checkWith}
+use Rattle.laws.specs.Tests.{and-comm, and-left, and-right, three-of, four-of, to-T, true-of}
 use Rattle.laws.specs.Grids.{all-at}
 use Rattle.laws.specs.Values.{grounds-flat, depths-flat, faces-flat}
-use Rattle.laws.specs.Checks.{apart}
+use Rattle.laws.specs.Checks.{Passed, apart, together, after-card}
 
 -- ---- the card
 
@@ -130,14 +130,18 @@ padded b n f low high k = go (ltb k n) refl
     go true e = low k (ltb-true k n e)
     go false e = rw (high k (ltb-false k n e)) zero-le
 
-value-facts : (c : Card) (g s : List ℤ) → Sized c g s → valuesFit c (readGround c g) (readState c s) ≡ true → Fits c g s
+-- what a site has that passes the first three checks: its card, its lengths and its values fit
+abbrev pub Sound : Card → (ground state : List ℤ) → Type 0
+Sound c g s = Passed (cardFits c) (lengthsFit c g s) (valuesFit c (readGround c g) (readState c s))
+
+pub sound-facts : (c : Card) (g s : List ℤ) → Sound c g s → Fits c g s
 unfolding valuesFit readGround readState stateLength
-value-facts c g s sized e =
+sound-facts c g s sound =
     let cells = c .rows * c .columns in
     let faces = c .rows * suc (c .columns) + suc (c .rows) * c .columns in
     let w = readState c s in
-    let lengths = length-facts c g s (sized .lengths) in
-    let t = four-of (groundsFit c (readGround c g)) (heightsFit c w) (velocitiesFit c w) (wallsStill c w) (to-T e) in
+    let lengths = length-facts c g s (sound .lengths) in
+    let t = four-of (groundsFit c (readGround c g)) (heightsFit c w) (velocitiesFit c w) (wallsStill c w) (to-T (sound .values)) in
     let grounds : T (all cells (λ k. groundFits (getD g k (pos 0)))) = subst T (grounds-flat c g) (t .one) in
     let heights : T (all cells (λ k. heightFits (getD s k (pos 0)))) = subst T (depths-flat c s) (t .two) in
     let speeds : T (all faces (λ k. speedFits (getD s (cells + k) (pos 0)))) = subst T (faces-flat c s) (t .three) in
@@ -147,7 +151,7 @@ value-facts c g s sized e =
     let speed : (k : ℕ) → natAbs (getD s (cells + k) (pos 0)) ≤ 20000000 =
     padded 20000000 faces (λ k. getD s (cells + k) (pos 0)) (λ k h. leb→le _ _ (all-at faces (λ k. speedFits (getD s (cells + k) (pos 0))) speeds k h)) (λ k h. List·getD-eq-default s (pos 0) (omega arith)) in
     record {
-      card = card-facts c (sized .card);
+      card = card-facts c (sound .card);
       lengths = lengths;
       ground = ground;
       height-high = λ k h. high-of (getD s k (pos 0)) (height k h);
@@ -159,34 +163,64 @@ value-facts c g s sized e =
       north-at = λ i j. speed (c .rows * suc (c .columns) + (j * c .columns + i));
     }
 
--- ---- a check that gives 0
+-- ---- a check that gives 0: what the call asked besides is so, and the site is sound
+
+pub record Granted (one two three : Bool) (c : Card) (g s : List ℤ) : Type 0 where
+  pub for-1 : T one
+  pub for-2 : T two
+  pub for-3 : T three
+  pub sound : Sound c g s
+
+pub granted : (one two three : Bool) (c : Card) (g s : List ℤ) → checkAlso one two three c g s ≡ 0 → Granted one two three c g s
+unfolding checkAlso
+granted one two three c g s e =
+    let card = cardFits c in
+    let lengths = lengthsFit c g s in
+    let values = valuesFit c (readGround c g) (readState c s) in
+    let p = apart (one && card) (two && lengths) (three && values) e in
+    record {
+      for-1 = and-left one card (to-T (p .card));
+      for-2 = and-left two lengths (to-T (p .lengths));
+      for-3 = and-left three values (to-T (p .values));
+      sound = record {
+        card = true-of card (and-right one card (to-T (p .card)));
+        lengths = true-of lengths (and-right two lengths (to-T (p .lengths)));
+        values = true-of values (and-right three values (to-T (p .values)));
+      };
+    }
+
+-- what is asked for 2 may be looked at after the card
+pub also-after-card : (one two three : Bool) (c : Card) (g s : List ℤ) → checkAlso one (cardFits c && two) three c g s ≡ checkAlso one two three c g s
+unfolding checkAlso
+also-after-card one two three c g s = after-card one (cardFits c) two (lengthsFit c g s) (three && valuesFit c (readGround c g) (readState c s))
+
+pub check-sound : (c : Card) (g s : List ℤ) → check c g s ≡ 0 → Sound c g s
+unfolding check
+check-sound c g s e = granted true true true c g s e .sound
+
+pub sound-check : (c : Card) (g s : List ℤ) → Sound c g s → check c g s ≡ 0
+unfolding check checkAlso
+sound-check c g s sound = together sound
 
 pub check-facts : (c : Card) (g s : List ℤ) → check c g s ≡ 0 → Fits c g s
-unfolding check
-check-facts c g s e =
-    let p = apart (cardFits c) (lengthsFit c g s) (valuesFit c (readGround c g) (readState c s)) e in
-    value-facts c g s (record { card = p .card; lengths = p .lengths }) (p .values)
+check-facts c g s e = sound-facts c g s (check-sound c g s e)
 
 -- the card by itself
 pub check-card : (c : Card) (g s : List ℤ) → check c g s ≡ 0 → cardFits c ≡ true
-unfolding check
-check-card c g s e = apart (cardFits c) (lengthsFit c g s) (valuesFit c (readGround c g) (readState c s)) e .card
+check-card c g s e = check-sound c g s e .card
 
 -- and the one more list is as long as the state
 pub check-with-facts : (c : Card) (g s : List ℤ) (room : ℕ) → checkWith c g s room ≡ 0 → Fits c g s × (room ≡ stateLength c)
 unfolding checkWith
 check-with-facts c g s room e =
-    let fits = eqb room (stateLength c) in
-    let p = apart (cardFits c) (lengthsFit c g s && fits) (valuesFit c (readGround c g) (readState c s)) e in
-    let t = to-T (p .lengths) in (
-      value-facts c g s (record { card = p .card; lengths = true-of (lengthsFit c g s) (and-left (lengthsFit c g s) fits t) }) (p .values),
-      eqb→eq room (stateLength c) (and-right (lengthsFit c g s) fits t),
-    )
+    let a = granted true (eqb room (stateLength c)) true c g s e in
+    (sound-facts c g s (a .sound), eqb→eq room (stateLength c) (a .for-2))
 
 -- it says the same as the check without that list, where the list is as long as the state
 pub check-own : (c : Card) (g s : List ℤ) → checkWith c g s (length s) ≡ check c g s
-unfolding checkWith check lengthsFit
+unfolding checkWith check checkAlso lengthsFit
 check-own c g s =
     let ground = eqb (length g) (c .rows * c .columns) in
     let state = eqb (length s) (stateLength c) in
-    ap (λ (l : Bool). firstOf (cardFits c) l (valuesFit c (readGround c g) (readState c s))) (and-assoc ground state state ∙ ap (λ (b : Bool). ground && b) (and-self state))
+    ap (λ (l : Bool). firstOf (cardFits c) l (valuesFit c (readGround c g) (readState c s)))
+    (and-comm state (ground && state) ∙ and-assoc ground state state ∙ ap (λ (b : Bool). ground && b) (and-self state))

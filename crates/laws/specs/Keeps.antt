@@ -16,8 +16,8 @@ use Rattle.rules.specs.Step.{Rule, walled, newHeight, eastFace, northFace, newV
 use Rattle.laws.specs.Tests.{true-of, to-T, and-both, and-left, four-of, of-four}
 use Rattle.laws.specs.Grids.{all-intro, allAt-at, allAt-intro, all-same, allAt-same}
 use Rattle.laws.specs.States.{Alike, height-back, east-back, north-back, length-state}
-use Rattle.laws.specs.Checks.{apart, together, accepted}
-use Rattle.laws.specs.Facts.{card-facts, length-facts}
+use Rattle.laws.specs.Checks.{accepted}
+use Rattle.laws.specs.Facts.{Sound, card-facts, length-facts, check-sound, sound-check}
 use Rattle.laws.specs.Limit.{not-below}
 use Rattle.laws.specs.Walls.{on-wall}
 
@@ -86,16 +86,18 @@ written-fits c g w e =
 
 -- ---- the checks
 
-pub keeps : (c : Card) (g s : List ℤ) → check c g s ≡ 0 → stepNumber c g s ≡ 0 → check c g (nextState c g s) ≡ 0
-unfolding check stepNumber nextState stepNumberBy nextStateBy
-keeps c g s e k =
-    let p = apart _ _ _ e in
+pub keeps-sound : (c : Card) (g s : List ℤ) → Sound c g s → stepNumber c g s ≡ 0 → Sound c g (nextState c g s)
+unfolding stepNumber nextState stepNumberBy nextStateBy
+keeps-sound c g s sound k =
     let n = next newVelocity c (readGround c g) (readState c s) in
-    let card = card-facts c (p .card) in
-    together (record {
-      card = p .card;
-      lengths = written-fits c g n (length-facts c g s (p .lengths) .ground);
+    let card = card-facts c (sound .card) in
+    record {
+      card = sound .card;
+      lengths = written-fits c g n (length-facts c g s (sound .lengths) .ground);
       values =
           values-alike c (readState c (writeState c n)) n (record { height = height-back c n; east = east-back c n; north = north-back c n }) (readGround c g)
-          ∙ true-of _ (next-values newVelocity c (readGround c g) (readState c s) (omega arith) (omega arith) (to-T (p .values)) k);
-    })
+          ∙ true-of _ (next-values newVelocity c (readGround c g) (readState c s) (omega arith) (omega arith) (to-T (sound .values)) k);
+    }
+
+pub keeps : (c : Card) (g s : List ℤ) → check c g s ≡ 0 → stepNumber c g s ≡ 0 → check c g (nextState c g s) ≡ 0
+keeps c g s e k = sound-check c g (nextState c g s) (keeps-sound c g s (check-sound c g s e) k)

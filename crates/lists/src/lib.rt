@@ -1,8 +1,9 @@
-// Lists of words: one word by column and row, and whole lists copied, cleared and renewed.
+// Lists of words: one word by column and row, whole lists copied, cleared and renewed, and the greatest word.
 ghost use mathlib.Core.Path.{_≡_};
 ghost use Prim.Native.Nat.{_+_, _*_, _≤_, _<_};
 ghost use lib.IntN.{pos};
 ghost use lib.ListN.{length, getD, set, replicate};
+ghost use Rattle.rules.specs.Grid.{maxZ, greatest as Grid·greatest};
 ghost use Rattle.lists.specs.Renewed.{renewed};
 
 // The word at a column and a row of the grid of so many columns that starts at `base`.
@@ -49,4 +50,25 @@ pub fn clear(s: &mut [i32])
     for k in 0..s.len() {
         s[k] = 0;
     }
+}
+
+fn larger(a: i32, b: i32) -> i32
+    ensures { λ r. ⌜ r ≡ maxZ a b ⌝ }
+{
+    if a <= b {
+        return b;
+    }
+    a
+}
+
+// The greatest of 0 and the first n words.
+pub fn greatest(s: &[i32], n: usize) -> i32
+    requires { ⌜ n ≤ length (now s) ⌝ }
+    ensures { λ r. ⌜ r ≡ Grid·greatest n (λ k. getD (now (s .entry)) k (pos 0)) ⌝ }
+{
+    let mut top = 0i32;
+    for i in 0..n {
+        top = larger(top, s[i]);
+    }
+    top
 }

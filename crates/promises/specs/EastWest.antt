@@ -12,7 +12,7 @@ use Rattle.rules.specs.Turn.{eastWest}
 use Rattle.rules.proofs.Fair.{fair}
 use Rattle.laws.specs.Grids.{length-grid, grid-same}
 use Rattle.laws.specs.States.{height-back, east-back, north-back, ground-back, write-same, peak-same, write-read, grid-read}
-use Rattle.laws.specs.Checks.{apart, together}
+use Rattle.laws.specs.Facts.{check-sound, sound-check}
 use Rattle.laws.specs.Keeps.{written-fits}
 use Rattle.promises.specs.Mirror.{Mirror, MirrorField, next-mirror}
 use Rattle.promises.specs.MirrorNumbers.{numbers, values-same}
@@ -56,10 +56,9 @@ module _ (c : Card) (g s : List ℤ) where
   number-mirrored = numbers c (readState c s) (readState c (eastWest .state c s)) state-mirrored (readGround c g) (readGround c (eastWest .ground c g)) ground-mirrored newVelocity fair
 
   check-mirrored : check c g s ≡ 0 → check c (eastWest .ground c g) (eastWest .state c s) ≡ 0
-  unfolding check
   check-mirrored e =
-      let p = apart _ _ _ e in
-      together (record {
+      let p = check-sound c g s e in
+      sound-check c (eastWest .ground c g) (eastWest .state c s) (record {
         card = p .card;
         lengths = written-fits c _ _ (length-grid (c .columns) (c .rows) _);
         values = values-same c (readState c s) (readState c (eastWest .state c s)) state-mirrored (readGround c g) (readGround c (eastWest .ground c g)) ground-mirrored ∙ p .values;

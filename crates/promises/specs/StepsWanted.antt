@@ -12,7 +12,7 @@ use Rattle.rules.specs.Site.{Water, stateLength, readGround, readState, writeSt
 use Rattle.rules.specs.Step.{eastTransfer, northTransfer, newHeight, eastFace, northFace, newEast, newNorth, next, withinLimit, limitKept, newHeightsFit, sharesFit, newVelocitiesFit, number, stepNumberBy, nextStateBy, stepNumber, nextState}
 use Rattle.rules.specs.Run.{peak, accepted, runOn}
 use Rattle.laws.specs.Tests.{true-of, to-T, and-both, and-left, three-of}
-use Rattle.laws.specs.Checks.{apart, together}
+use Rattle.laws.specs.Facts.{check-sound, sound-check}
 use Rattle.laws.specs.Runs.{finished, gone-on, stopped, by-step}
 
 -- the card, with n steps wanted
@@ -38,11 +38,11 @@ module _ (c : Card) (a b : ℕ) (g s : List ℤ) where
   times-fit t h = and-both (within 1 1000 (c .dt)) (leb b 10000) (and-left (within 1 1000 (c .dt)) (leb a 10000) t) (le→leb b 10000 h)
 
   pub same-check : check (wanting c a) g s ≡ 0 → b ≤ 10000 → check (wanting c b) g s ≡ 0
-  unfolding check cardFits sizesFit sidesFit lengthsFit stateLength valuesFit groundsFit heightsFit velocitiesFit wallsStill readGround readState
+  unfolding cardFits sizesFit sidesFit lengthsFit stateLength valuesFit groundsFit heightsFit velocitiesFit wallsStill readGround readState
   same-check e h =
-      let p = apart _ _ _ e in
+      let p = check-sound (wanting c a) g s e in
       let f = three-of (sizesFit c) (sidesFit c) (timesFit (wanting c a)) (to-T (p .card)) in
-      together (record {
+      sound-check (wanting c b) g s (record {
         card = true-of _ (and-both (sizesFit c && sidesFit c) (timesFit (wanting c b)) (and-both (sizesFit c) (sidesFit c) (f .one) (f .two)) (times-fit (f .three) h));
         lengths = p .lengths;
         values = p .values;

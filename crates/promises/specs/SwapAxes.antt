@@ -10,7 +10,7 @@ use Rattle.rules.specs.Turn.{swapAxes, swapCard}
 use Rattle.laws.specs.Tests.{and-comm}
 use Rattle.laws.specs.Grids.{length-grid, grid-same}
 use Rattle.laws.specs.States.{height-back, east-back, north-back, ground-back, write-same, peak-same, write-read, grid-read}
-use Rattle.laws.specs.Checks.{apart, together}
+use Rattle.laws.specs.Facts.{check-sound, sound-check}
 use Rattle.laws.specs.Keeps.{written-fits}
 use Rattle.promises.specs.Swap as S
 use Rattle.promises.specs.Swap.{Swapped, SwappedField}
@@ -59,10 +59,9 @@ module _ (c : Card) (g s : List ℤ) where
       )
 
   check-swapped : check c g s ≡ 0 → check (swapCard c) (swapAxes .ground c g) (swapAxes .state c s) ≡ 0
-  unfolding check
   check-swapped e =
-      let p = apart _ _ _ e in
-      together (record {
+      let p = check-sound c g s e in
+      sound-check (swapCard c) (swapAxes .ground c g) (swapAxes .state c s) (record {
         card = card-swapped ∙ p .card;
         lengths = written-fits (swapCard c) _ _ (length-grid (c .rows) (c .columns) _);
         values = values-same c (readState c s) (readState (swapCard c) (swapAxes .state c s)) state-swapped (readGround c g) (readGround (swapCard c) (swapAxes .ground c g)) ground-swapped ∙ p .values;

@@ -12,7 +12,7 @@ use borrow.Author.Tests.{ltb-true, ltb-false, le-leb, eq-eqb}
 use mir.Syntax.{w32}
 use mir.Val.{SFits}
 use Rattle.rules.specs.declared.Card.{Card}
-use Rattle.rules.specs.Site.{cells, stateLength, cardFits, lengthsFit, valuesFit, readGround, readState, check}
+use Rattle.rules.specs.Site.{cells, stateLength, cardFits, lengthsFit, valuesFit, readGround, readState, checkAlso, check}
 use Rattle.rules.specs.Sheet.{Bytes, bytesOf, numberIn, wordsBytes, wordsIn, sheetSize, header, sheetOf, cardIn, groundIn, stateIn, headFits, sheetLengthsFit, readNumber}
 use Rattle.laws.specs.Checks.{apart, together}
 use Rattle.laws.specs.Facts.{Fits}
@@ -71,7 +71,7 @@ module _ (l : List ℕ) (b : Bytes l) where
 
 -- and what was read passes the first three checks
 pub read-checks : (l : List ℕ) (n m : ℕ) → Read l n m → check (cardIn l) (groundIn l) (stateIn l) ≡ 0
-unfolding check lengthsFit
+unfolding check checkAlso lengthsFit
 read-checks l n m r =
     let c = cardIn l in
     let p : lengthsFit c (groundIn l) (stateIn l) ≡ true =
@@ -156,7 +156,7 @@ module _ (c : Card) (g s : List ℤ) (f : Fits c g s) where
   version-back = refl
 
   pub number-back : check c g s ≡ 0 → readNumber sheet (length g) (length s) ≡ 0
-  unfolding readNumber headFits sheetLengthsFit check
+  unfolding readNumber headFits sheetLengthsFit check checkAlso
   number-back e =
       let p = apart (cardFits c) (lengthsFit c g s) (valuesFit c (readGround c g) (readState c s)) e in
       let long : 19 ≤ length sheet = omega (arith, length-sheet c g s) in

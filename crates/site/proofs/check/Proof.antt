@@ -1,15 +1,15 @@
--- `check`: the state's own length stands in for the one more list.
+-- `check`: nothing is asked besides.
 use borrow.Author.Needs.{needs}
-use mathlib.Core.Path.{_∙_}
-use Rattle.laws.specs.Facts.{check-own}
+use Rattle.rules.specs.Site.{check}
 use Rattle.site.proofs.check.Statement.{statement}
 use Rattle.site.proofs.check.Tie as tie
 
-check-with-requires : tie.Need-check-with-requires
-check-with-requires c κs = search needs
+check-also-requires : tie.Need-check-also-requires
+check-also-requires c κs = search needs
 
 returns : tie.Need-returns
-returns c = c .check-with .ensures ∙ check-own _ _ _
+unfolding check
+returns c = c .check-also .ensures
 
 pub check-spec : {M : Type 1} → statement M
-check-spec = tie.close (tie.spec check-with-requires returns)
+check-spec = tie.close (tie.spec check-also-requires returns)

@@ -2,8 +2,8 @@
 use borrow.Author.Needs.{needs}
 use mathlib.Core.Path.{_∙_}
 use mir.Facts.{toZ-ofZ}
-use Rattle.site.proofs.height_fits.Statement.{statement}
-use Rattle.site.proofs.height_fits.Tie as tie
+use Rattle.values.proofs.height_fits.Statement.{statement}
+use Rattle.values.proofs.height_fits.Tie as tie
 
 is-between-requires : tie.Need-is-between-requires
 is-between-requires c κs = search needs

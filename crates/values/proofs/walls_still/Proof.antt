@@ -12,9 +12,9 @@ use Rattle.rules.specs.declared.Card.{Card}
 use Rattle.rules.specs.Site.{stateLength}
 use Rattle.laws.specs.Facts.{card-facts}
 use Rattle.laws.specs.Values.{walls-flat}
-use Rattle.site.specs.Lent.{Whole}
-use Rattle.site.proofs.walls_still.Statement.{statement}
-use Rattle.site.proofs.walls_still.Tie as tie
+use Rattle.values.specs.Lent.{Whole}
+use Rattle.values.proofs.walls_still.Statement.{statement}
+use Rattle.values.proofs.walls_still.Tie as tie
 
 words : (c : Card) (s : List ℤ) → Whole c s → length s ≡ c .rows * c .columns + (c .rows * (c .columns + 1) + (c .rows * c .columns + c .columns))
 unfolding stateLength

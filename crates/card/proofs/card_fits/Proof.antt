@@ -1,8 +1,8 @@
 -- `card_fits`: six tests, joined as the definition joins them.
 use borrow.Author.Needs.{needs}
 use Rattle.rules.specs.Site.{cardFits, sizesFit, sidesFit, timesFit}
-use Rattle.site.proofs.card_fits.Statement.{statement}
-use Rattle.site.proofs.card_fits.Tie as tie
+use Rattle.card.proofs.card_fits.Statement.{statement}
+use Rattle.card.proofs.card_fits.Tie as tie
 
 is-within-requires : tie.Need-is-within-requires
 is-within-requires c κs = search needs

@@ -9,8 +9,8 @@ use mir.Syntax.{w32}
 use mir.Facts.{toZ-ofZ}
 use Rattle.laws.specs.Between.{between}
 use Rattle.laws.specs.Gather.{Gathered, gather-none, gather-more, gather-all}
-use Rattle.site.proofs.all_between.Statement.{statement}
-use Rattle.site.proofs.all_between.Tie as tie
+use Rattle.values.proofs.all_between.Statement.{statement}
+use Rattle.values.proofs.all_between.Tie as tie
 
 abbrev Inv-loop : tie.InvT-loop
 Inv-loop s start n low high ok₀ k₀ ok k = Gathered n (λ k. between (toZ w32 low) (toZ w32 high) (getD s (start + k) (pos 0))) ok k

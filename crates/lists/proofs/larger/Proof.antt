@@ -3,8 +3,8 @@ use mathlib.Core.Path.{_≡_}
 use mathlib.Core.Bool.{true, false}
 use lib.Signed.{leZ}
 use mir.Facts.{toZ-ofZ}
-use Rattle.site.proofs.larger.Statement.{statement}
-use Rattle.site.proofs.larger.Tie as tie
+use Rattle.lists.proofs.larger.Statement.{statement}
+use Rattle.lists.proofs.larger.Tie as tie
 
 returns : tie.Need-returns
 returns c =

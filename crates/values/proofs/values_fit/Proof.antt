@@ -14,8 +14,8 @@ use Rattle.laws.specs.Between.{size-between}
 use Rattle.laws.specs.Grids.{all-same}
 use Rattle.laws.specs.Facts.{length-facts}
 use Rattle.laws.specs.Values.{grounds-flat, depths-flat, faces-flat}
-use Rattle.site.proofs.values_fit.Statement.{statement}
-use Rattle.site.proofs.values_fit.Tie as tie
+use Rattle.values.proofs.values_fit.Statement.{statement}
+use Rattle.values.proofs.values_fit.Tie as tie
 
 -- the words of a list from `base` on, under two tests that agree
 agree : (n base : ℕ) (l : List ℤ) (p q : ℤ → Bool) → ((z : ℤ) → q z ≡ p z) → all n (λ k. q (getD l (base + k) (pos 0))) ≡ all n (λ k. p (getD l (base + k) (pos 0)))

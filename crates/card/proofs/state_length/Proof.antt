@@ -4,8 +4,8 @@ use native.Mathlib.Numerals.{add-one}
 use native.Mathlib.Omega.{arith}
 use Rattle.rules.specs.Site.{stateLength}
 use Rattle.laws.specs.Facts.{card-facts}
-use Rattle.site.proofs.state_length.Statement.{statement}
-use Rattle.site.proofs.state_length.Tie as tie
+use Rattle.card.proofs.state_length.Statement.{statement}
+use Rattle.card.proofs.state_length.Tie as tie
 
 cast-columns : tie.Need-cast-columns
 cast-columns c = search needs

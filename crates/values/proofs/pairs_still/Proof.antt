@@ -9,8 +9,8 @@ use mir.Syntax.{w32}
 use mir.Facts.{toZ-ofZ}
 use Rattle.rules.specs.Site.{isZero}
 use Rattle.laws.specs.Gather.{Gathered, gather-none, gather-more, gather-all}
-use Rattle.site.proofs.pairs_still.Statement.{statement}
-use Rattle.site.proofs.pairs_still.Tie as tie
+use Rattle.values.proofs.pairs_still.Statement.{statement}
+use Rattle.values.proofs.pairs_still.Tie as tie
 
 abbrev Inv-loop : tie.InvT-loop
 Inv-loop s first second stride n ok₀ k₀ ok k = Gathered n (λ k. isZero (getD s (first + k * stride) (pos 0)) && isZero (getD s (second + k * stride) (pos 0))) ok k

@@ -10,8 +10,8 @@ use mir.Syntax.{w32}
 use mir.Facts.{toZ-ofZ}
 use Rattle.rules.specs.Grid.{greatest as Grid·greatest, maxZ}
 use Rattle.laws.specs.Grids.{greatest-none, greatest-more}
-use Rattle.site.proofs.greatest.Statement.{statement}
-use Rattle.site.proofs.greatest.Tie as tie
+use Rattle.lists.proofs.greatest.Statement.{statement}
+use Rattle.lists.proofs.greatest.Tie as tie
 
 abbrev Inv-loop : tie.InvT-loop
 Inv-loop s n top₀ i₀ top i = (i ≤ n) × (toZ w32 top ≡ Grid·greatest i (λ k. getD s k (pos 0)))

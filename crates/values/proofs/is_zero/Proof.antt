@@ -3,8 +3,8 @@ use borrow.Author.Needs.{needs}
 use mathlib.Core.Path.{_∙_}
 use mir.Facts.{toZ-ofZ}
 use Rattle.laws.specs.Between.{zero-between}
-use Rattle.site.proofs.is_zero.Statement.{statement}
-use Rattle.site.proofs.is_zero.Tie as tie
+use Rattle.values.proofs.is_zero.Statement.{statement}
+use Rattle.values.proofs.is_zero.Tie as tie
 
 is-between-requires : tie.Need-is-between-requires
 is-between-requires c κs = search needs

@@ -3,8 +3,8 @@ use borrow.Author.Needs.{needs}
 use mathlib.Core.Path.{refl}
 use native.Mathlib.Omega.{arith}
 use Rattle.laws.specs.Facts.{card-facts}
-use Rattle.site.proofs.cells.Statement.{statement}
-use Rattle.site.proofs.cells.Tie as tie
+use Rattle.card.proofs.cells.Statement.{statement}
+use Rattle.card.proofs.cells.Tie as tie
 
 cast-columns : tie.Need-cast-columns
 cast-columns c = search needs
