@@ -1,19 +1,17 @@
 -- A step does not look at the number of steps wanted: a card that wants another number has the same next states, numbers and greatest heights.
 use Prim.Native.Nat.{ℕ, zero, suc, _≤_}
-use mathlib.Core.Path.{_≡_, refl, sym, ap, _∙_}
+use mathlib.Core.Path.{_≡_, refl, ap}
 use mathlib.Core.Bool.{_&&_}
 use mathlib.Core.List.{List}
 use lib.IntN.{ℤ}
 use lib.Dec.{T, leb, le→leb}
 use Rattle.rules.specs.declared.Card.{Card}
-use Rattle.rules.specs.declared.Tally.{Tally}
 use Rattle.rules.specs.Grid.{Field}
 use Rattle.rules.specs.Site.{Water, stateLength, readGround, readState, writeState, within, sizesFit, sidesFit, timesFit, cardFits, lengthsFit, groundsFit, heightsFit, velocitiesFit, wallsStill, valuesFit, check}
 use Rattle.rules.specs.Step.{eastTransfer, northTransfer, newHeight, eastFace, northFace, newEast, newNorth, next, withinLimit, limitKept, newHeightsFit, sharesFit, newVelocitiesFit, number, stepNumber, nextState}
-use Rattle.rules.specs.Run.{peak, accepted, runOn}
+use Rattle.rules.specs.Run.{peak, siteStep}
 use Rattle.laws.specs.Tests.{true-of, to-T, and-both, and-left, three-of}
 use Rattle.laws.specs.Checks.{apart, together}
-use Rattle.laws.specs.Runs.{finished, gone-on, stopped, by-step}
 
 -- the card, with n steps wanted
 abbrev pub wanting : Card → ℕ → Card
@@ -77,15 +75,15 @@ module _ (c : Card) (a b : ℕ) (g : Field) (w : Water) where
   numbers = rw (limit-same, heights-same, shares-same, speeds-same)
 
 module _ (c : Card) (a b : ℕ) (g s : List ℤ) where
-  pub same-number : stepNumber (wanting c a) g s ≡ stepNumber (wanting c b) g s
+  same-number : stepNumber (wanting c a) g s ≡ stepNumber (wanting c b) g s
   unfolding stepNumber readGround readState
   same-number = numbers c a b (readGround c g) (readState c s)
 
-  pub same-next : nextState (wanting c a) g s ≡ nextState (wanting c b) g s
+  same-next : nextState (wanting c a) g s ≡ nextState (wanting c b) g s
   unfolding nextState readGround readState writeState
   same-next = ap (writeState (wanting c b)) (nexts c a b (readGround c g) (readState c s))
 
-  pub same-peak : peak (wanting c a) s ≡ peak (wanting c b) s
+  same-peak : peak (wanting c a) s ≡ peak (wanting c b) s
   unfolding peak
   same-peak = refl
 
@@ -105,13 +103,6 @@ module _ (c : Card) (a b : ℕ) (g s : List ℤ) where
         values = p .values;
       })
 
--- so the steps that are left lead to the same end
-pub same-runs : (c : Card) (a b : ℕ) (g : List ℤ) (n : ℕ) (t : Tally) (s : List ℤ) → runOn (wanting c a) g n t s ≡ runOn (wanting c b) g n t s
-same-runs c a b g zero t s = finished (wanting c a) g t s ∙ sym (finished (wanting c b) g t s)
-same-runs c a b g (suc n) t s =
-    by-step (wanting c b) g n t s (λ o. runOn (wanting c a) g (suc n) t s ≡ o)
-    (λ e.
-    gone-on (wanting c a) g n t s (same-number c a b g s ∙ e)
-    ∙ rw (same-next c a b g s, same-peak c a b g (nextState (wanting c b) g s))
-    (same-runs c a b g n (accepted t (peak (wanting c b) (nextState (wanting c b) g s))) (nextState (wanting c b) g s)))
-    (λ r h e. stopped (wanting c a) g n t s r h (same-number c a b g s ∙ e))
+-- so it is the same step
+pub same-step : (c : Card) (a b : ℕ) (g : List ℤ) → siteStep (wanting c a) g ≡ siteStep (wanting c b) g
+same-step c a b g = λ x. record { number = λ s. same-number c a b g s x; next = λ s. same-next c a b g s x; peak = λ s. same-peak c a b g s x }
