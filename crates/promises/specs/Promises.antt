@@ -21,7 +21,8 @@ use Rattle.promises.specs.SwapAxes as SwapAxes
 use Rattle.promises.specs.TheCall.{call-runs, call-steps}
 use Rattle.promises.specs.NeverInTheMiddle.{Ends, ends}
 use Rattle.promises.specs.StepsWanted.{wanting}
-use Rattle.promises.specs.Slices.{joined, in-slices}
+use Rattle.promises.specs.Slices.{joined}
+use Rattle.promises.specs.SiteSlices.{site-in-slices}
 -- of each public call: any two outcomes that its contract allows are equal, refused calls too
 pub use Rattle.promises.specs.OneOutcome.{one-step, one-run, one-search, one-row-search, one-reading, one-writing, one-text}
 -- and a refused call leaves every list as it was lent
@@ -88,4 +89,4 @@ never-in-the-middle = ends
 -- a run of m + n steps is a run of m steps and then one of n from where it ended
 pub slices : (c : Card) (g s : List ℤ) (m n : ℕ) → check (wanting c (m + n)) g s ≡ 0
     → run (wanting c (m + n)) g s ≡ joined (run (wanting c m) g s) (run (wanting c n) g)
-slices = in-slices
+slices = site-in-slices
