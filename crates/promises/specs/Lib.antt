@@ -6,6 +6,7 @@ pub mod Endings
 pub mod Slices
 pub mod SiteSlices
 pub mod TheCall
+pub mod OneStep
 pub mod OneOutcome
 pub mod Refused
 pub mod Turning

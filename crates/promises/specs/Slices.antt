@@ -33,66 +33,66 @@ joinedAfter (suc r) first second = first
 unfoldable pub joined : (first : Outcome) (second : List ℤ → Outcome) → Outcome
 joined first second = joinedAfter (first .tally .reason) first second
 
--- ---- of tallies
+-- ---- a tally in front is carried along
 
 accepted-both : (a t : Tally) (h : ℤ) → accepted (bothTallies a t) h ≡ bothTallies a (accepted t h)
 unfolding accepted bothTallies
 accepted-both a t h =
     let steps : accepted (bothTallies a t) h .steps ≡ bothTallies a (accepted t h) .steps = omega arith in
-    let top : accepted (bothTallies a t) h .top ≡ bothTallies a (accepted t h) .top = simp max-assoc in
+    let top : accepted (bothTallies a t) h .top ≡ bothTallies a (accepted t h) .top = cc (max-assoc (a .top) (t .top) h) in
     λ x. record { steps = steps x; reason = bothTallies a t .reason; top = top x }
+
+carried-along : (step : Step) (a : Tally) (n : ℕ) (t : Tally) (s : List ℤ) → runOn step n (bothTallies a t) s ≡ bothRuns a (runOn step n t s)
+unfolding bothRuns bothTallies stoppedFor
+carried-along step a zero t s = finished step (bothTallies a t) s ∙ ap (bothRuns a) (sym (finished step t s))
+carried-along step a (suc n) t s =
+    by-step step n t s (λ o. runOn step (suc n) (bothTallies a t) s ≡ bothRuns a o)
+    (λ e.
+    gone-on step n (bothTallies a t) s e
+    ∙ ap (λ (u : Tally). runOn step n u (step .next s)) (accepted-both a t (step .peak (step .next s)))
+    ∙ carried-along step a n (further step t s) (step .next s))
+    (λ r z e. stopped step n (bothTallies a t) s r z e)
+
+-- ---- the second run, from where the first ended
 
 -- a tally with reason 0 is itself, joined with that of a run which starts where it stands
 rejoined : (t : Tally) (h : ℤ) → t .reason ≡ 0 → T (leZ h (t .top)) → bothTallies t (started h) ≡ t
 unfolding bothTallies started
-rejoined t h z l = λ x. record { steps = add-zero (t .steps) x; reason = sym z x; top = max-absorbs (t .top) h l x }
-
--- ---- of runs
+rejoined t h z l =
+    let reason : bothTallies t (started h) .reason ≡ t .reason = cc in
+    λ x. record { steps = add-zero (t .steps) x; reason = reason x; top = max-absorbs (t .top) h l x }
 
 no-second : (r : ℕ) → 0 < r → (first : Outcome) (second : List ℤ → Outcome) → joinedAfter r first second ≡ first
 unfolding joinedAfter
 no-second zero h first second = absurd (not-suc-le-zero h)
 no-second (suc r) h first second = refl
 
-module _ (step : Step) where
-  -- a tally in front is carried along
-  carried-along : (a : Tally) (n : ℕ) (t : Tally) (s : List ℤ) → runOn step n (bothTallies a t) s ≡ bothRuns a (runOn step n t s)
-  unfolding bothRuns bothTallies stoppedFor
-  carried-along a zero t s = finished step (bothTallies a t) s ∙ ap (bothRuns a) (sym (finished step t s))
-  carried-along a (suc n) t s =
-      by-step step n t s (λ o. runOn step (suc n) (bothTallies a t) s ≡ bothRuns a o)
+module _ (step : Step) (n : ℕ) where
+  -- no step before it; the top is at least the greatest height that stands
+  none-before : (t : Tally) (s : List ℤ) → t .reason ≡ 0 → T (leZ (step .peak s) (t .top))
+      → runOn step n t s ≡ joined (record { tally = t; state = s }) (runFrom step n)
+  unfolding joined joinedAfter runFrom
+  none-before t s z h =
+      ap (λ (u : Tally). runOn step n u s) (sym (rejoined t (step .peak s) z h))
+      ∙ carried-along step t n (started (step .peak s)) s
+      ∙ ap (λ (r : ℕ). joinedAfter r (record { tally = t; state = s }) (runFrom step n)) (sym z)
+
+  -- m steps before it
+  some-before : (m : ℕ) (t : Tally) (s : List ℤ) → t .reason ≡ 0 → T (leZ (step .peak s) (t .top))
+      → runOn step (m + n) t s ≡ joined (runOn step m t s) (runFrom step n)
+  unfolding joined accepted stoppedFor
+  some-before zero t s z h =
+      ap (λ (k : ℕ). runOn step k t s) (zero-add n)
+      ∙ none-before t s z h
+      ∙ ap (λ (o : Outcome). joined o (runFrom step n)) (sym (finished step t s))
+  some-before (suc m) t s z h =
+      ap (λ (k : ℕ). runOn step k t s) (suc-add m n)
+      ∙ by-step step m t s (λ o. runOn step (suc (m + n)) t s ≡ joined o (runFrom step n))
       (λ e.
-      gone-on step n (bothTallies a t) s e
-      ∙ ap (λ (u : Tally). runOn step n u (step .next s)) (accepted-both a t (step .peak (step .next s)))
-      ∙ carried-along a n (further step t s) (step .next s))
-      (λ r z e. stopped step n (bothTallies a t) s r z e)
+      gone-on step (m + n) t s e
+      ∙ some-before m (further step t s) (step .next s) z (max-right (t .top) (step .peak (step .next s))))
+      (λ r p e. stopped step (m + n) t s r p e ∙ sym (no-second r p (record { tally = stoppedFor t r; state = s }) (runFrom step n)))
 
-  module _ (n : ℕ) where
-    -- no step before the second run; the top is at least the greatest height that stands
-    none-before : (t : Tally) (s : List ℤ) → t .reason ≡ 0 → T (leZ (step .peak s) (t .top))
-        → runOn step n t s ≡ joined (record { tally = t; state = s }) (runFrom step n)
-    unfolding joined joinedAfter runFrom
-    none-before t s z h =
-        ap (λ (u : Tally). runOn step n u s) (sym (rejoined t (step .peak s) z h))
-        ∙ carried-along t n (started (step .peak s)) s
-        ∙ ap (λ (r : ℕ). joinedAfter r (record { tally = t; state = s }) (runFrom step n)) (sym z)
-
-    -- m steps before it
-    some-before : (m : ℕ) (t : Tally) (s : List ℤ) → t .reason ≡ 0 → T (leZ (step .peak s) (t .top))
-        → runOn step (m + n) t s ≡ joined (runOn step m t s) (runFrom step n)
-    unfolding joined accepted stoppedFor
-    some-before zero t s z h =
-        ap (λ (k : ℕ). runOn step k t s) (zero-add n)
-        ∙ none-before t s z h
-        ∙ ap (λ (o : Outcome). joined o (runFrom step n)) (sym (finished step t s))
-    some-before (suc m) t s z h =
-        ap (λ (k : ℕ). runOn step k t s) (suc-add m n)
-        ∙ by-step step m t s (λ o. runOn step (suc (m + n)) t s ≡ joined o (runFrom step n))
-        (λ e.
-        gone-on step (m + n) t s e
-        ∙ some-before m (further step t s) (step .next s) z (max-right (t .top) (step .peak (step .next s))))
-        (λ r p e. stopped step (m + n) t s r p e ∙ sym (no-second r p (record { tally = stoppedFor t r; state = s }) (runFrom step n)))
-
-  pub in-slices : (m n : ℕ) (s : List ℤ) → runFrom step (m + n) s ≡ joined (runFrom step m s) (runFrom step n)
-  unfolding runFrom started
-  in-slices m n s = some-before n m (started (step .peak s)) s refl (leZ-refl (step .peak s))
+pub in-slices : (step : Step) (m n : ℕ) (s : List ℤ) → runFrom step (m + n) s ≡ joined (runFrom step m s) (runFrom step n)
+unfolding runFrom started
+in-slices step m n s = some-before step n m (started (step .peak s)) s refl (leZ-refl (step .peak s))
