@@ -1,6 +1,6 @@
 -- A run that wants 1 step is the step: its reason is the step's number, and it leaves what the step makes. First over any step, then of the public calls.
 use Prim.Native.Nat.{ℕ, zero, suc}
-use mathlib.Core.Path.{_≡_, refl, sym, ap, _∙_, subst}
+use mathlib.Core.Path.{_≡_, refl, sym, _∙_, subst}
 use mathlib.Core.List.{List}
 use native.Mathlib.Nat.{ne-of-gt}
 use lib.IntN.{ℤ}
