@@ -12,6 +12,7 @@ pub mod Signed
 pub mod Places
 pub mod Copies
 pub mod Runs
+pub mod Follows
 pub mod Walls
 pub mod Rules
 pub mod Keeps

@@ -2,8 +2,11 @@ pub mod Promises
 pub mod Demand3
 pub mod TakenTwice
 pub mod NeverInTheMiddle
+pub mod Endings
 pub mod Slices
+pub mod SiteSlices
 pub mod TheCall
+pub mod OneStep
 pub mod OneOutcome
 pub mod Refused
 pub mod Turning

@@ -9,7 +9,7 @@ use Rattle.rules.specs.declared.Card.{Card}
 use Rattle.rules.specs.Site.{check, firstRefusal}
 use Rattle.rules.specs.Step.{stepNumber, nextState}
 use Rattle.rules.specs.Run.{run}
-use Rattle.rules.specs.Calls.{stepAnswer, runOutcome}
+use Rattle.rules.specs.Calls.{stepAnswer, stepNext, runOutcome}
 use Rattle.rules.specs.Turn.{Turn, Obeys, eastWest, northSouth, swapAxes}
 use Rattle.laws.specs.Keeps.{keeps}
 use Rattle.promises.specs.Turning.{Lawful, obeys}
@@ -18,10 +18,12 @@ use Rattle.promises.specs.TakenTwice.{GivesBack}
 use Rattle.promises.specs.EastWest as EastWest
 use Rattle.promises.specs.NorthSouth as NorthSouth
 use Rattle.promises.specs.SwapAxes as SwapAxes
-use Rattle.promises.specs.TheCall.{call-runs, call-steps}
+use Rattle.promises.specs.TheCall.{call-runs, call-steps, call-leaves}
+use Rattle.promises.specs.OneStep.{IsTheStep, is-the-step}
 use Rattle.promises.specs.NeverInTheMiddle.{Ends, ends}
 use Rattle.promises.specs.StepsWanted.{wanting}
-use Rattle.promises.specs.Slices.{joined, in-slices}
+use Rattle.promises.specs.Slices.{joined}
+use Rattle.promises.specs.SiteSlices.{site-in-slices}
 -- of each public call: any two outcomes that its contract allows are equal, refused calls too
 pub use Rattle.promises.specs.OneOutcome.{one-step, one-run, one-search, one-row-search, one-reading, one-writing, one-text}
 -- and a refused call leaves every list as it was lent
@@ -73,9 +75,18 @@ taken-twice swappedAxes = SwapAxes.gives-back
 pub the-call-steps : (c : Card) (g s next : List ℤ) → length next ≡ length s → stepAnswer c g s next ≡ firstRefusal (check c g s) (stepNumber c g s)
 the-call-steps = call-steps
 
+-- and where that number is 0, the call leaves the next state
+pub the-call-leaves : (c : Card) (g s next : List ℤ) → stepAnswer c g s next ≡ 0 → stepNext c g s next ≡ nextState c g s
+the-call-leaves = call-leaves
+
 -- lent a scratch list as long as its state, the call's outcome is the run
 pub the-call-runs : (c : Card) (g s scratch : List ℤ) → length scratch ≡ length s → runOutcome c g s scratch ≡ run c g s
 the-call-runs = call-runs
+
+-- a run that wants 1 step is the step, for every input, where scratch is as long as the list for the next state: its reason is the step's number;
+-- 0 leaves the step's next state after 1 step, and else the state is as it was after none
+pub one-step-runs : (c : Card) (g s next scratch : List ℤ) → c .steps ≡ 1 → length next ≡ length scratch → IsTheStep c g s next scratch
+one-step-runs = is-the-step
 
 -- a site that passes the first three checks still passes them after an accepted step
 pub still-passes : (c : Card) (g s : List ℤ) → check c g s ≡ 0 → stepNumber c g s ≡ 0 → check c g (nextState c g s) ≡ 0
@@ -88,4 +99,4 @@ never-in-the-middle = ends
 -- a run of m + n steps is a run of m steps and then one of n from where it ended
 pub slices : (c : Card) (g s : List ℤ) (m n : ℕ) → check (wanting c (m + n)) g s ≡ 0
     → run (wanting c (m + n)) g s ≡ joined (run (wanting c m) g s) (run (wanting c n) g)
-slices = in-slices
+slices = site-in-slices

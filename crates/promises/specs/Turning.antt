@@ -1,15 +1,16 @@
 -- A turn whose single steps agree obeys demand 3; so does one turn after another.
-use Prim.Native.Nat.{ℕ, zero, suc}
-use mathlib.Core.Path.{_≡_, sym, ap, ap₂, _∙_}
+use Prim.Native.Nat.{ℕ}
+use mathlib.Core.Path.{_≡_, sym, ap, _∙_}
 use mathlib.Core.List.{List}
 use lib.IntN.{ℤ}
 use Rattle.rules.specs.declared.Card.{Card}
-use Rattle.rules.specs.declared.Tally.{Tally}
 use Rattle.rules.specs.Site.{check}
 use Rattle.rules.specs.Step.{stepNumber, nextState}
-use Rattle.rules.specs.Run.{peak, started, accepted, runOn}
+use Rattle.rules.specs.Run.{peak, runFrom, siteStep}
 use Rattle.rules.specs.Turn.{Turn, turned, Obeys}
-use Rattle.laws.specs.Runs.{finished, gone-on, stopped, by-step, begun}
+use Rattle.laws.specs.Keeps.{keeps}
+use Rattle.laws.specs.Runs.{begun}
+use Rattle.laws.specs.Follows.{Follows, follows}
 
 -- what a turn does to one step: the turned site wants as many steps, passes the checks too, and its step has the same number, the next state turned
 -- and the same greatest height
@@ -21,21 +22,19 @@ pub record Lawful (t : Turn) : Type 0 where
   pub peaks : (c : Card) (s : List ℤ) → peak (t .card c) (t .state c s) ≡ peak c s
 
 module _ (t : Turn) (𝓛 : Lawful t) where
-  runs : (c : Card) (g : List ℤ) (n : ℕ) (a : Tally) (s : List ℤ)
-      → runOn (t .card c) (t .ground c g) n a (t .state c s) ≡ turned t c (runOn c g n a s)
-  runs c g zero a s = finished (t .card c) (t .ground c g) a (t .state c s) ∙ ap (turned t c) (sym (finished c g a s))
-  runs c g (suc n) a s =
-      by-step c g n a s (λ o. runOn (t .card c) (t .ground c g) (suc n) a (t .state c s) ≡ turned t c o)
-      (λ e.
-      gone-on (t .card c) (t .ground c g) n a (t .state c s) (𝓛 .numbers c g s ∙ e)
-      ∙ rw (𝓛 .states c g s, 𝓛 .peaks c (nextState c g s)) (runs c g n (accepted a (peak c (nextState c g s))) (nextState c g s)))
-      (λ r z e. stopped (t .card c) (t .ground c g) n a (t .state c s) r z (𝓛 .numbers c g s ∙ e))
+  turned-follows : (c : Card) (g : List ℤ) → Follows (λ s. check c g s ≡ 0) (t .state c) (siteStep c g) (siteStep (t .card c) (t .ground c g))
+  turned-follows c g = record {
+    kept = keeps c g;
+    numbers = λ s e. 𝓛 .numbers c g s;
+    states = λ s e z. 𝓛 .states c g s;
+    peaks = λ s e. 𝓛 .peaks c s;
+  }
 
   pub obeys : Obeys t
   obeys c g s e =
       begun (t .card c) (t .ground c g) (t .state c s) (𝓛 .checks c g s e)
-      ∙ ap₂ (λ (n : ℕ) (h : ℤ). runOn (t .card c) (t .ground c g) n (started h) (t .state c s)) (𝓛 .steps c) (𝓛 .peaks c s)
-      ∙ runs c g (c .steps) (started (peak c s)) s
+      ∙ ap (λ (n : ℕ). runFrom (siteStep (t .card c) (t .ground c g)) n (t .state c s)) (𝓛 .steps c)
+      ∙ follows (turned-follows c g) (c .steps) s e
       ∙ ap (turned t c) (sym (begun c g s e))
 
 -- one turn, then another

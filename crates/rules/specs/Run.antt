@@ -13,7 +13,9 @@ use Rattle.rules.specs.Step.{stepNumber, nextState}
 unfoldable pub peak : Card → List ℤ → ℤ
 peak c s = greatest (cells c) (λ k. getD s k (pos 0))
 
--- the tally before the first step, from a state with the greatest height h
+-- ---- the tally: steps done, reason, top
+
+-- before the first step, from a state with the greatest height h
 unfoldable pub started : ℤ → Tally
 started h = record { steps = 0; reason = 0; top = h }
 
@@ -25,23 +27,41 @@ accepted t h = record { steps = t .steps + 1; reason = t .reason; top = maxZ (t 
 unfoldable pub stoppedFor : Tally → ℕ → Tally
 stoppedFor t k = record { steps = t .steps; reason = k; top = t .top }
 
+-- ---- a run, over any step
+
+-- a step as a run sees it: the number of a state's step, the next state where that is 0, and the greatest height of a state
+pub record Step : Type 0 where
+  pub number : List ℤ → ℕ
+  pub next : List ℤ → List ℤ
+  pub peak : List ℤ → ℤ
+
 -- how a run ends: its tally, and the last accepted state
 pub record Outcome : Type 0 where
   pub tally : Tally
   pub state : List ℤ
 
 -- at most n steps more, from a state that was reached with the tally t
-unfoldable pub runOn : Card → (ground : List ℤ) → ℕ → Tally → (state : List ℤ) → Outcome
-runOn c g zero t s = record { tally = t; state = s }
-runOn c g (suc n) t s =
-    elim (stepNumber c g s) [
-      | zero ↦ (let s′ = nextState c g s in runOn c g n (accepted t (peak c s′)) s′)
+unfoldable pub runOn : Step → ℕ → Tally → (state : List ℤ) → Outcome
+runOn step zero t s = record { tally = t; state = s }
+runOn step (suc n) t s =
+    elim (step .number s) [
+      | zero ↦ (let s′ = step .next s in runOn step n (accepted t (step .peak s′)) s′)
       | suc k ↦ record { tally = stoppedFor t (suc k); state = s }
     ]
 
+-- at most n steps, from the starting state
+unfoldable pub runFrom : Step → ℕ → (state : List ℤ) → Outcome
+runFrom step n s = runOn step n (started (step .peak s)) s
+
+-- ---- a site's run
+
+-- the step of a site with this card and this ground
+abbrev pub siteStep : Card → (ground : List ℤ) → Step
+siteStep c g = record { number = stepNumber c g; next = nextState c g; peak = peak c }
+
 -- the run of a site that passes the first three checks
 unfoldable pub runAll : Card → (ground state : List ℤ) → Outcome
-runAll c g s = runOn c g (c .steps) (started (peak c s)) s
+runAll c g s = runFrom (siteStep c g) (c .steps) s
 
 -- the run of any site, given the number of its first three checks: reasons 1 to 3 leave steps 0, top 0 and the state as it was
 unfoldable pub runAfter : (number : ℕ) → Card → (ground state : List ℤ) → Outcome

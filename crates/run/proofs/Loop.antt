@@ -12,7 +12,7 @@ use Rattle.rules.specs.declared.Tally.{Tally}
 use Rattle.rules.specs.Grid.{greatest}
 use Rattle.rules.specs.Site.{cells, stateLength, check}
 use Rattle.rules.specs.Step.{stepNumber, nextState}
-use Rattle.rules.specs.Run.{Outcome, peak, started, accepted, stoppedFor, runAfter, runAll}
+use Rattle.rules.specs.Run.{Outcome, peak, started, accepted, stoppedFor, siteStep, runAll}
 use Rattle.laws.specs.Facts.{check-facts}
 use Rattle.laws.specs.Keeps.{keeps}
 use Rattle.laws.specs.Outcomes.{if-done, if-refused}
@@ -27,7 +27,7 @@ pub record Running (c : Card) (g s₀ s : List ℤ) (t : Tally) (done : ℕ) : T
   pub long : length s ≡ stateLength c
   pub most : done ≤ c .steps
   pub counted : t .steps ≡ done
-  pub leads : LeadsTo c g (c .steps) done t s (runAll c g s₀)
+  pub leads : LeadsTo (siteStep c g) (c .steps) done t s (runAll c g s₀)
 
 pub cells-held : (c : Card) (g s : List ℤ) → check c g s ≡ 0 → cells c ≤ length s
 cells-held c g s e = check-facts c g s e .lengths .heights
@@ -41,13 +41,13 @@ unfolding peak
 peak-is c s n e p = p ∙ ap (λ (m : ℕ). greatest m (λ k. getD s k (pos 0))) e
 
 pub begins : (c : Card) (g s : List ℤ) (h : ℤ) → check c g s ≡ 0 → h ≡ peak c s → Running c g s s (record { steps = 0; reason = 0; top = h }) 0
-unfolding runAfter started
+unfolding runAll started
 begins c g s h e p = record {
   passes = e;
   long = check-facts c g s e .lengths .state;
   most = omega arith;
   counted = refl;
-  leads = subst (λ (x : ℤ). LeadsTo c g (c .steps) 0 (record { steps = 0; reason = 0; top = x }) s (runAll c g s)) (sym p) (leads-from c g s 0 refl);
+  leads = subst (λ (x : ℤ). LeadsTo (siteStep c g) (c .steps) 0 (record { steps = 0; reason = 0; top = x }) s (runAll c g s)) (sym p) (leads-from (siteStep c g) (c .steps) s);
 }
 
 module _ {c : Card} {g s₀ s : List ℤ} {t : Tally} {done : ℕ} (r : Running c g s₀ s t done) where
@@ -67,8 +67,8 @@ module _ {c : Card} {g s₀ s : List ℤ} {t : Tally} {done : ℕ} (r : Running 
           most = omega arith;
           counted = ap (λ (x : Tally). x .steps) taken ∙ ap (λ (n : ℕ). n + 1) (r .counted);
           leads =
-              subst (λ (x : List ℤ). LeadsTo c g (c .steps) (done + 1) t′ x (runAll c g s₀)) (sym new)
-              (subst (λ (x : Tally). LeadsTo c g (c .steps) (done + 1) x (nextState c g s) (runAll c g s₀)) (sym p) (leads-on (r .leads) l e));
+              subst (λ (x : List ℤ). LeadsTo (siteStep c g) (c .steps) (done + 1) t′ x (runAll c g s₀)) (sym new)
+              (subst (λ (x : Tally). LeadsTo (siteStep c g) (c .steps) (done + 1) x (nextState c g s) (runAll c g s₀)) (sym p) (leads-on (r .leads) l e));
         }
 
     pub stops : (k ≡ 0 → ⊥) → Ended (runAll c g s₀) (record { steps = t .steps; reason = k; top = t .top }) s′
