@@ -1,7 +1,7 @@
 -- Two waters of which one is the other turned east for west: so are their next states.
 -- A cell's column i and its mirror image i′ are known by suc (i + i′) ≡ columns, a face's by i + i′ ≡ columns: no subtraction.
 use Prim.Native.Nat.{ℕ, zero, suc, _+_, _≤_, _<_}
-use mathlib.Core.Path.{_≡_, refl, sym, ap, _∙_}
+use mathlib.Core.Path.{_≡_, refl, sym, _∙_}
 use mathlib.Core.Bool.{Bool, true, false, cond}
 use native.Mathlib.Nat.{add-comm}
 use native.Mathlib.Omega.{arith}

@@ -1,13 +1,12 @@
 -- A step does not look at the number of steps wanted: a card that wants another number has the same next states, numbers and greatest heights.
-use Prim.Native.Nat.{ℕ, zero, suc, _≤_}
-use mathlib.Core.Path.{_≡_, refl, ap}
+use Prim.Native.Nat.{ℕ, _≤_}
+use mathlib.Core.Path.{_≡_, refl}
 use mathlib.Core.Bool.{_&&_}
 use mathlib.Core.List.{List}
 use lib.IntN.{ℤ}
 use lib.Dec.{T, leb, le→leb}
 use Rattle.rules.specs.declared.Card.{Card}
-use Rattle.rules.specs.Grid.{Field}
-use Rattle.rules.specs.Site.{Water, stateLength, readGround, readState, writeState, within, sizesFit, sidesFit, timesFit, cardFits, lengthsFit, groundsFit, heightsFit, velocitiesFit, wallsStill, valuesFit, check}
+use Rattle.rules.specs.Site.{stateLength, readGround, readState, writeState, within, sizesFit, sidesFit, timesFit, cardFits, lengthsFit, groundsFit, heightsFit, velocitiesFit, wallsStill, valuesFit, check}
 use Rattle.rules.specs.Step.{eastTransfer, northTransfer, newHeight, eastFace, northFace, newEast, newNorth, next, withinLimit, limitKept, newHeightsFit, sharesFit, newVelocitiesFit, number, stepNumberBy, nextStateBy, stepNumber, nextState}
 use Rattle.rules.specs.Run.{peak, siteStep}
 use Rattle.laws.specs.Tests.{true-of, to-T, and-both, and-left, three-of}

@@ -1,6 +1,6 @@
 -- The new velocity of a face, by the test for a wall: 0 there, and the rule of an inner face with the numbers around it elsewhere.
 use Prim.Native.Nat.{ℕ, _≤_}
-use mathlib.Core.Path.{_≡_, refl}
+use mathlib.Core.Path.{_≡_}
 use mathlib.Core.Bool.{Bool, true, false, not, cond}
 use native.Mathlib.Omega.{arith}
 use mathlib.Core.List.{List}

@@ -1,7 +1,7 @@
 -- `front`: the two tests that are made before any value is looked at.
 use borrow.Author.Needs.{needs}
-use mathlib.Core.Path.{_≡_, refl, sym, ap, _∙_}
-use mathlib.Core.Bool.{Bool, true, false, _&&_}
+use mathlib.Core.Path.{_≡_, sym, ap, _∙_}
+use mathlib.Core.Bool.{Bool, true, _&&_}
 use borrow.Author.Tests.{not-true, not-false}
 use Rattle.rules.specs.Site.{cardFits, lengthsFit, firstOf}
 use Rattle.laws.specs.Tests.{and-right, to-T, true-of}
