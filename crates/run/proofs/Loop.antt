@@ -13,7 +13,7 @@ use Rattle.rules.specs.Grid.{greatest}
 use Rattle.rules.specs.Site.{cells, stateLength, check}
 use Rattle.rules.specs.Step.{stepNumber, nextState}
 use Rattle.rules.specs.Run.{Outcome, peak, started, accepted, stoppedFor, runAfter, runAll}
-use Rattle.laws.specs.Facts.{Lengths, check-facts}
+use Rattle.laws.specs.Facts.{check-facts}
 use Rattle.laws.specs.Keeps.{keeps}
 use Rattle.laws.specs.Outcomes.{if-done}
 use Rattle.laws.specs.Runs.{LeadsTo, leads-from, leads-on, leads-nowhere, led}
@@ -32,9 +32,8 @@ pub record Running (c : Card) (g s₀ s : List ℤ) (t : Tally) (done : ℕ) : T
 pub few-steps : (c : Card) (g s : List ℤ) → check c g s ≡ 0 → c .steps ≤ 10000
 few-steps c g s e = check-facts c g s e .card .steps-high
 
--- the lists have room for the heights of the cells, and for the ground's
-pub lengths-held : (c : Card) (g s : List ℤ) → check c g s ≡ 0 → Lengths c g s
-lengths-held c g s e = check-facts c g s e .lengths
+pub cells-held : (c : Card) (g s : List ℤ) → check c g s ≡ 0 → cells c ≤ length s
+cells-held c g s e = check-facts c g s e .lengths .heights
 
 -- the greatest height, as it was found
 pub peak-is : (c : Card) (s : List ℤ) (n : ℕ) {h : ℤ} → n ≡ cells c → h ≡ greatest n (λ k. getD s k (pos 0)) → h ≡ peak c s

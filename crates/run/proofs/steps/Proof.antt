@@ -6,7 +6,7 @@ use borrow.Author.Needs.{needs}
 use mir.Facts.{toZ-ofZ}
 use Rattle.rules.specs.Site.{stateLength}
 use Rattle.laws.specs.Facts.{check-card}
-use Rattle.run.proofs.Loop.{Running, few-steps, lengths-held, peak-is, begins, stops, goes-on, ends}
+use Rattle.run.proofs.Loop.{Running, few-steps, cells-held, peak-is, begins, stops, goes-on, ends}
 use Rattle.run.proofs.steps.Statement.{statement}
 use Rattle.run.proofs.steps.Tie as tie
 
@@ -47,7 +47,7 @@ cells-requires : tie.Need-cells-requires Inv-loop μ-loop
 cells-requires c κs = check-card _ _ _ (c .pre .passes)
 
 greatest-requires : tie.Need-greatest-requires Inv-loop μ-loop
-greatest-requires c κs = let held = lengths-held _ _ _ (c .before .before .pre .passes) in omega (arith, c .before .cells .ensures .0)
+greatest-requires c κs = omega (arith, c .before .cells .ensures .0, cells-held _ _ _ (c .before .before .pre .passes))
 
 loop-holds : tie.Need-loop-holds Inv-loop μ-loop
 loop-holds c =
@@ -76,12 +76,10 @@ returns c =
 renew-requires : tie.Need-renew-requires Inv-loop μ-loop
 renew-requires c κs = search needs
 
--- of the state, or of the ground
 greatest-requires-2 : tie.Need-greatest-requires-2 Inv-loop μ-loop
 greatest-requires-2 c κs =
     let d = stepped c .before in
-    let held = lengths-held _ _ _ (d .loop .inv .0 .passes) in
-    omega (arith, counted (d .before) .cells .ensures .0, renewed c .renew .kept .0)
+    omega (arith, counted (d .before) .cells .ensures .0, cells-held _ _ _ (d .loop .inv .0 .passes), renewed c .renew .kept .0)
 
 accept-requires : tie.Need-accept-requires Inv-loop μ-loop
 accept-requires c κs =
