@@ -68,33 +68,38 @@ copy-requires c κs =
     let start = c .before .before .before .before in
     omega (arith, next-front start, tide-front start, state-front start)
 
+-- the places, each from the one behind it
+abbrev start : tie.After-next → tie.Start
+start c = c .before .before .before .before .before .before
+
+abbrev fronted : tie.After-velocities → tie.After-next
+fronted c = c .before .before
+
 -- the next state with its front filled is as long as before
 abbrev begun : tie.After-next → List ℤ
-begun c = let start = c .before .before .before .before .before .before in c .before .copy .last .0 ++ drop (cells start) (start .args .next .now)
+begun c = c .before .copy .last .0 ++ drop (cells (start c)) (start c .args .next .now)
 
-begun-long : (c : tie.After-next) → length (begun c) ≡ length (c .before .before .before .before .before .before .args .next .now)
-begun-long c =
-    let start = c .before .before .before .before .before .before in
-    length-front (start .args .next .now) (c .before .copy .last .0) (cells start) (c .before .copy .kept .0)
+begun-long : (c : tie.After-next) → length (begun c) ≡ length (start c .args .next .now)
+begun-long c = length-front (start c .args .next .now) (c .before .copy .last .0) (cells (start c)) (c .before .copy .kept .0)
 
 mul-velocities : tie.Need-mul-velocities
-mul-velocities c = omega (arith, next-room (c .before .before .before .before .before .before))
+mul-velocities c = omega (arith, next-room (start c))
 
 sub-velocities : tie.Need-sub-velocities
-sub-velocities c = omega (arith, begun-long c, next-room (c .before .before .before .before .before .before))
+sub-velocities c = omega (arith, begun-long c, next-room (start c))
 
 part-velocities-start : tie.Need-part-velocities-start
-part-velocities-start c = omega (arith, begun-long c, next-room (c .before .before .before .before .before .before))
+part-velocities-start c = omega (arith, begun-long c, next-room (start c))
 
 part-velocities-end : tie.Need-part-velocities-end
 part-velocities-end c = search needs
 
 velocities-requires : tie.Need-velocities-requires
 velocities-requires c κs =
-    let start = c .before .before .before .before .before .before .before in
+    let d = c .before in
     record {
-      flowing = start .pre .flowing;
-      long = back-length (cells start) (begun (c .before)) ∙ omega (arith, begun-long (c .before), next-room start);
+      flowing = start d .pre .flowing;
+      long = back-length (cells (start d)) (begun d) ∙ omega (arith, begun-long d, next-room (start d));
     }
 
 same-length : tie.Need-same-length
@@ -103,13 +108,13 @@ same-length c = search needs
 returns : tie.Need-returns
 unfolding nextState next writeState tide nextVelocities
 returns c =
-    let start = c .before .before .before .before .before .before .before .before .before in
-    let p = start .pre .flowing .tide .is in
-    let heights = c .before .before .before .before .copy .ensures ∙ ap (take (cells start)) p ∙ front-heights (start .args .card) _ in
+    let d = fronted (c .before) in
+    let p = start d .pre .flowing .tide .is in
+    let heights = d .before .copy .ensures ∙ ap (take (cells (start d))) p ∙ front-heights (start d .args .card) _ in
     let faces = c .before .velocities .ensures in
     record {
       every-one = faces .every-one;
-      is = λ t. two-parts (cells start) (start .args .next .now) heights (faces .is t) (length-grid _ _ _);
+      is = λ t. two-parts (cells (start d)) (start d .args .next .now) heights (faces .is t) (length-grid _ _ _);
     }
 
 pub fill-next-spec : {M : Type 1} → statement M
