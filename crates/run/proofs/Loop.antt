@@ -15,7 +15,7 @@ use Rattle.rules.specs.Step.{stepNumber, nextState}
 use Rattle.rules.specs.Run.{Outcome, peak, started, accepted, stoppedFor, siteStep, runAll}
 use Rattle.laws.specs.Facts.{check-facts}
 use Rattle.laws.specs.Keeps.{keeps}
-use Rattle.laws.specs.Outcomes.{if-done, if-refused}
+use Rattle.laws.specs.Outcomes.{if-done}
 use Rattle.laws.specs.Runs.{LeadsTo, leads-from, leads-on, leads-nowhere, led}
 use Rattle.lists.specs.Renewed.{renewed}
 use Rattle.step.specs.Advance.{Advanced}
@@ -29,11 +29,11 @@ pub record Running (c : Card) (g s₀ s : List ℤ) (t : Tally) (done : ℕ) : T
   pub counted : t .steps ≡ done
   pub leads : LeadsTo (siteStep c g) (c .steps) done t s (runAll c g s₀)
 
+pub few-steps : (c : Card) (g s : List ℤ) → check c g s ≡ 0 → c .steps ≤ 10000
+few-steps c g s e = check-facts c g s e .card .steps-high
+
 pub cells-held : (c : Card) (g s : List ℤ) → check c g s ≡ 0 → cells c ≤ length s
 cells-held c g s e = check-facts c g s e .lengths .heights
-
-pub few-steps : (c : Card) (g s : List ℤ) → check c g s ≡ 0 → c .steps ≤ 10000
-few-steps c g s e = omega (arith, check-facts c g s e .card .steps-high)
 
 -- the greatest height, as it was found
 pub peak-is : (c : Card) (s : List ℤ) (n : ℕ) {h : ℤ} → n ≡ cells c → h ≡ greatest n (λ k. getD s k (pos 0)) → h ≡ peak c s
@@ -51,11 +51,18 @@ begins c g s h e p = record {
 }
 
 module _ {c : Card} {g s₀ s : List ℤ} {t : Tally} {done : ℕ} (r : Running c g s₀ s t done) where
-  -- a step that is taken, its number k, what it made, and the state renewed by it
-  module _ (l : done < c .steps) (k : ℕ) {made s′ : List ℤ} (a : Advanced c g s k made) (is : s′ ≡ renewed k made s) where
-    pub goes-on : k ≡ 0 → length made ≡ stateLength c → (h : ℤ) → h ≡ peak c s′ → (t′ : Tally) → t′ ≡ accepted t h → Running c g s₀ s′ t′ (done + 1)
+  -- a step that is taken: its number k, and what it made
+  module _ (l : done < c .steps) (k : ℕ) {made : List ℤ} (a : Advanced c g s k made) where
+    pub stops : (k ≡ 0 → ⊥) → Ended (runAll c g s₀) (record { steps = t .steps; reason = k; top = t .top }) s
+    unfolding stoppedFor
+    stops h =
+        let o = leads-nowhere (r .leads) l k (pos-of-ne-zero h) (sym (a .number)) in
+        record { tallied = ap (λ (x : Outcome). x .tally) o; left = ap (λ (x : Outcome). x .state) o }
+
+    -- the state renewed by it, and the tally with the new state's greatest height
+    pub goes-on : k ≡ 0 → length made ≡ stateLength c → {s′ : List ℤ} → s′ ≡ renewed k made s → (h : ℤ) → h ≡ peak c s′ → (t′ : Tally) → t′ ≡ accepted t h → Running c g s₀ s′ t′ (done + 1)
     unfolding accepted renewed
-    goes-on z long h top t′ taken =
+    goes-on z long {s′} is h top t′ taken =
         let e : stepNumber c g s ≡ 0 = sym (a .number) ∙ z in
         let whole : take (length s) made ≡ made = take-all (length s) made (omega (arith, r .long)) in
         let new : s′ ≡ nextState c g s = is ∙ if-done k (take (length s) made) s z ∙ whole ∙ a .state z in
@@ -69,15 +76,6 @@ module _ {c : Card} {g s₀ s : List ℤ} {t : Tally} {done : ℕ} (r : Running 
           leads =
               subst (λ (x : List ℤ). LeadsTo (siteStep c g) (c .steps) (done + 1) t′ x (runAll c g s₀)) (sym new)
               (subst (λ (x : Tally). LeadsTo (siteStep c g) (c .steps) (done + 1) x (nextState c g s) (runAll c g s₀)) (sym p) (leads-on (r .leads) l e));
-        }
-
-    pub stops : (k ≡ 0 → ⊥) → Ended (runAll c g s₀) (record { steps = t .steps; reason = k; top = t .top }) s′
-    unfolding stoppedFor renewed
-    stops h =
-        let o = leads-nowhere (r .leads) l k (pos-of-ne-zero h) (sym (a .number)) in
-        record {
-          tallied = ap (λ (x : Outcome). x .tally) o;
-          left = is ∙ if-refused k (take (length s) made) s h ∙ ap (λ (x : Outcome). x .state) o;
         }
 
   pub ends : c .steps ≤ done → Ended (runAll c g s₀) t s

@@ -26,19 +26,19 @@ fn steps(
     let mut done: u32 = 0;
     while done < wanted {
         let number = step::advance::advance(card, ground, state, tide, scratch);
-        lists::renew(state, scratch, number);
         if number != 0 {
             tally.reason = number;
             return tally;
         }
+        lists::renew(state, scratch, number);
         tally = tally.accept(site::greatest(state, cells));
         done += 1;
     }
     tally
 }
 
-// The same with a tide that is long enough for any site.
-fn steps_in(
+// The same with a tide that is long enough for any site, and with the scratch list all zero at the end.
+fn run_in(
     card: Card,
     ground: &[i32],
     state: &mut [i32],
@@ -46,10 +46,12 @@ fn steps_in(
     tide: &mut [i32],
 ) -> Tally
     requires { ⌜ Roomy card (now ground) (now state) (now scratch) (now tide) ⌝ }
-    ensures { λ r. ⌜ Ended (runAll card (now (ground .entry)) (now (state .entry))) r (now (state .exit)) ⌝ }
+    ensures { λ r. ⌜ RunContract card (now (ground .entry)) (now (state .entry)) (now (scratch .entry)) r (now (state .exit)) (now (scratch .exit)) ⌝ }
 {
     let n = state.len();
-    steps(card, ground, state, scratch, &mut tide[..n])
+    let tally = steps(card, ground, state, scratch, &mut tide[..n]);
+    lists::clear(scratch);
+    tally
 }
 
 // A run: its tally, the last accepted state in the place of the first, and the scratch list all zero. Reasons 1 to 3 leave both lists as they were lent.
@@ -65,7 +67,5 @@ pub fn run(card: Card, ground: &[i32], state: &mut [i32], scratch: &mut [i32]) -
         };
     }
     let mut tide = step::longest();
-    let tally = steps_in(card, ground, state, scratch, &mut tide);
-    lists::clear(scratch);
-    tally
+    run_in(card, ground, state, scratch, &mut tide)
 }

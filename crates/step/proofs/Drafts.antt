@@ -33,6 +33,10 @@ module _ {c : Card} {g s t d n : List ℤ} (drafting : Drafting c g s t d n) whe
   pub draft-part : length (take (length n) d) ≡ length n
   draft-part = length-take-le (length n) d (drafting .draft)
 
+  -- the state has as many words as the next state
+  pub state-room : length n ≤ length s
+  state-room = omega (arith, room-long, check-with-facts c g s (length n) (drafting .passes) .0 .lengths .state)
+
   pub ready : Ready c g s (take (length n) t) (take (length n) d)
   ready =
       let facts = check-with-facts c g s (length n) (drafting .passes) .0 in

@@ -6,7 +6,7 @@ use borrow.Author.Needs.{needs}
 use mir.Facts.{toZ-ofZ}
 use Rattle.rules.specs.Site.{stateLength}
 use Rattle.laws.specs.Facts.{check-card}
-use Rattle.run.proofs.Loop.{Running, cells-held, few-steps, peak-is, begins, goes-on, stops, ends}
+use Rattle.run.proofs.Loop.{Running, few-steps, cells-held, peak-is, begins, stops, goes-on, ends}
 use Rattle.run.proofs.steps.Statement.{statement}
 use Rattle.run.proofs.steps.Tie as tie
 
@@ -18,20 +18,46 @@ abbrev μ-loop : tie.MeasureT-loop
 μ-loop card ground state₀ scratch₀ tide₀ cells wanted tally₀ done₀ state scratch tide tally done =
     wanted - done
 
+-- ---- the places, each from the one behind it: one more call changes one of these lines
+
+abbrev counted : tie.After-greatest Inv-loop μ-loop → tie.After-cells Inv-loop μ-loop
+counted c = c .before .before
+
+abbrev entered : tie.After-advance Inv-loop μ-loop → tie.In-loop Inv-loop μ-loop
+entered c = c .before .before .before .before
+
+abbrev refused : tie.Then1 Inv-loop μ-loop → tie.After-advance Inv-loop μ-loop
+refused c = c .before .before .before
+
+abbrev accepted : tie.Else1 Inv-loop μ-loop → tie.After-advance Inv-loop μ-loop
+accepted c = c .before .before .before
+
+abbrev passed : tie.After-renew Inv-loop μ-loop → tie.Else1 Inv-loop μ-loop
+passed c = c .before .before .before
+
+abbrev renewed : tie.After-greatest-arg2 Inv-loop μ-loop → tie.After-renew Inv-loop μ-loop
+renewed c = c .before .before
+
+abbrev stepped : tie.After-greatest-arg2 Inv-loop μ-loop → tie.In-loop Inv-loop μ-loop
+stepped c = entered (accepted (passed (renewed c)))
+
+-- ---- before the loop
+
 cells-requires : tie.Need-cells-requires Inv-loop μ-loop
 cells-requires c κs = check-card _ _ _ (c .pre .passes)
 
 greatest-requires : tie.Need-greatest-requires Inv-loop μ-loop
-greatest-requires c κs = let s = c .before .before in omega (arith, c .before .cells .ensures .0, cells-held _ _ _ (s .pre .passes))
+greatest-requires c κs = omega (arith, c .before .cells .ensures .0, cells-held _ _ _ (c .before .before .pre .passes))
 
 loop-holds : tie.Need-loop-holds Inv-loop μ-loop
-loop-holds c = (begins _ _ _ _ (c .before .before .before .pre .passes) (toZ-ofZ (record { sfits = c .greatest .ok }) ∙ peak-is _ _ _ (c .before .before .cells .ensures .0) (c .greatest .ensures)), c .before .before .before .pre .scratch-long, c .before .before .before .pre .tide-long)
+loop-holds c =
+    let p = counted c .before .pre in
+    (begins _ _ _ _ (p .passes) (toZ-ofZ (record { sfits = c .greatest .ok }) ∙ peak-is _ _ _ (counted c .cells .ensures .0) (c .greatest .ensures)), p .scratch-long, p .tide-long)
+
+-- ---- one turn
 
 advance-requires : tie.Need-advance-requires Inv-loop μ-loop
 advance-requires c κs = let i = c .before .before .before .before .loop .inv in record { passes = i .0 .passes; tide = i .2; next = i .1 }
-
-renew-requires : tie.Need-renew-requires Inv-loop μ-loop
-renew-requires c κs = search needs
 
 same-length : tie.Need-same-length Inv-loop μ-loop
 same-length c = search needs
@@ -43,36 +69,49 @@ same-length-3 : tie.Need-same-length-3 Inv-loop μ-loop
 same-length-3 c = search needs
 
 returns : tie.Need-returns Inv-loop μ-loop
-returns c = stops (c .before .before .before .before .before .before .before .before .before .before .before .before .loop .inv .0) (c .before .before .before .before .before .before .before .before .before .before .before .loop-test .taken) _ (c .before .before .before .before .before .before .before .advance .ensures) (c .before .before .renew .ensures) (c .if1 .taken)
+returns c =
+    let d = refused c in
+    stops (entered d .before .loop .inv .0) (entered d .loop-test .taken) _ (d .advance .ensures) (λ z. omega arith)
+
+renew-requires : tie.Need-renew-requires Inv-loop μ-loop
+renew-requires c κs = search needs
 
 greatest-requires-2 : tie.Need-greatest-requires-2 Inv-loop μ-loop
 greatest-requires-2 c κs =
-    let i = c .before .before .before .before .before .before .before .before .before .before .before .before .before .loop .inv in
-    omega (arith, c .before .before .before .before .before .before .before .before .before .before .before .before .before .before .before .before .cells .ensures .0, cells-held _ _ _ (i .0 .passes), c .before .before .before .renew .kept .0)
+    let d = stepped c .before in
+    omega (arith, counted (d .before) .cells .ensures .0, cells-held _ _ _ (d .loop .inv .0 .passes), renewed c .renew .kept .0)
 
 accept-requires : tie.Need-accept-requires Inv-loop μ-loop
 accept-requires c κs =
-    let i = c .before .before .before .before .before .before .before .before .before .before .before .before .before .before .loop .inv in
-    omega (arith, i .0 .counted, few-steps _ _ _ (i .0 .passes), c .before .before .before .before .before .before .before .before .before .before .before .before .before .loop-test .taken)
+    let d = stepped (c .before) in
+    let i = d .before .loop .inv .0 in
+    omega (arith, i .counted, few-steps _ _ _ (i .passes), d .loop-test .taken)
 
 add-done : tie.Need-add-done Inv-loop μ-loop
-add-done c = omega (arith, few-steps _ _ _ (c .before .before .before .before .before .before .before .before .before .before .before .before .before .before .before .loop .inv .0 .passes), c .before .before .before .before .before .before .before .before .before .before .before .before .before .before .loop-test .taken)
+add-done c =
+    let i = stepped (c .before .before) .before .loop .inv .0 in
+    omega (arith, i .most, few-steps _ _ _ (i .passes))
 
 loop-less : tie.Need-loop-less Inv-loop μ-loop
 loop-less c = search needs
 
 loop-again : tie.Need-loop-again Inv-loop μ-loop
 loop-again c =
-    let i = c .before .before .before .before .before .before .before .before .before .before .before .before .before .before .before .loop .inv in
-    let stepped = c .before .before .before .before .before .before .before .before .before .before .advance in
-    let scratch-long = stepped .kept .1 .1 .1 .1 .0 ∙ i .1 in (
-      goes-on (i .0) (c .before .before .before .before .before .before .before .before .before .before .before .before .before .before .loop-test .taken) _ (stepped .ensures) (c .before .before .before .before .before .renew .ensures) (c .before .before .before .if1 .left) scratch-long _
-          (toZ-ofZ (record { sfits = c .before .greatest2 .ok }) ∙ peak-is _ _ _ (c .before .before .before .before .before .before .before .before .before .before .before .before .before .before .before .before .before .before .cells .ensures .0) (c .before .greatest2 .ensures))
+    let top = c .before .greatest2 in
+    let new = renewed (c .before .before) in
+    let step = accepted (passed new) .advance in
+    let d = stepped (c .before .before) in
+    let i = d .before .loop .inv in
+    let scratch-long = step .kept .1 .1 .1 .1 .0 ∙ i .1 in (
+      goes-on (i .0) (d .loop-test .taken) _ (step .ensures) (passed new .if1 .left) scratch-long (new .renew .ensures) _
+          (toZ-ofZ (record { sfits = top .ok }) ∙ peak-is _ _ _ (counted (d .before .before) .cells .ensures .0) (top .ensures))
           _
           (c .accept .ensures),
       scratch-long,
-      stepped .kept .1 .1 .1 .0 ∙ i .2,
+      step .kept .1 .1 .1 .0 ∙ i .2,
     )
+
+-- ---- behind the loop
 
 same-length-4 : tie.Need-same-length-4 Inv-loop μ-loop
 same-length-4 c = search needs
@@ -96,11 +135,11 @@ steps-spec =
     greatest-requires
     loop-holds
     advance-requires
-    renew-requires
     same-length
     same-length-2
     same-length-3
     returns
+    renew-requires
     greatest-requires-2
     accept-requires
     add-done

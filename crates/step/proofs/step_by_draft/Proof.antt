@@ -1,6 +1,6 @@
 use mathlib.Core.Path.{sym}
 use borrow.Author.Needs.{needs}
-use Rattle.step.proofs.Drafts.{tide-part, draft-part, ready, front, answered}
+use Rattle.step.proofs.Drafts.{tide-part, draft-part, state-room, ready, front, answered}
 use Rattle.step.proofs.step_by_draft.Statement.{statement}
 use Rattle.step.proofs.step_by_draft.Tie as tie
 
@@ -20,7 +20,7 @@ advance-requires : tie.Need-advance-requires
 advance-requires c κs = ready (c .before .before .pre)
 
 renew-requires : tie.Need-renew-requires
-renew-requires c κs = search needs
+renew-requires c κs = search (needs, state-room)
 
 same-length : tie.Need-same-length
 same-length c = search needs

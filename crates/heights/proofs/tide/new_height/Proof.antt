@@ -20,7 +20,8 @@ use Rattle.heights.proofs.tide.new_height.Tie as tie
 cell-at-requires : tie.Need-cell-at-requires
 cell-at-requires c κs =
     let p = c .pre in
-    record { card = facts (p .lists .limited .sound) .card; heights = facts (p .lists .limited .sound) .lengths .state; faces = p .lists .long; column = p .column; row = p .row }
+    let f = facts (p .lists .limited .sound) in
+    record { card = f .card; heights = omega (arith, f .lengths .state, p .lists .long); faces = p .lists .long; column = p .column; row = p .row }
 
 -- the numbers of the cell: its old height, and what crosses its four faces
 module _ (c : tie.After-struct-told5) where

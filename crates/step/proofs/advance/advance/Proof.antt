@@ -3,6 +3,10 @@ use Rattle.step.proofs.Answers.{limit-broken, limited, tide-room, cross
 use Rattle.step.proofs.advance.advance.Statement.{statement}
 use Rattle.step.proofs.advance.advance.Tie as tie
 
+-- where the tide has its heights, from where they were looked at
+abbrev filled : tie.After-heights-fit → tie.After-heights
+filled c = c .before .before .before
+
 limit-kept-requires : tie.Need-limit-kept-requires
 limit-kept-requires c κs = search needs
 
@@ -22,11 +26,13 @@ same-length : tie.Need-same-length
 same-length c = search needs
 
 returns-2 : tie.Need-returns-2
-returns-2 c = height-broken (search limited) (c .before .before .before .before .heights .ensures) (c .before .heights-fit .ensures) (c .if2 .taken)
+returns-2 c = let d = c .before in height-broken (search limited) (filled d .heights .ensures) (d .heights-fit .ensures) (c .if2 .taken)
 
 move-on-requires : tie.Need-move-on-requires
 move-on-requires c κs =
-    next-room (search limited) (c .before .before .before .before .before .before .heights .ensures) (c .before .before .before .heights-fit .ensures) (c .before .before .if2 .left) (search needs) (search needs)
+    let e = c .before .before in
+    let d = e .before in
+    next-room (search limited) (filled d .heights .ensures) (d .heights-fit .ensures) (e .if2 .left) (search needs) (search needs)
 
 same-length-2 : tie.Need-same-length-2
 same-length-2 c = search needs

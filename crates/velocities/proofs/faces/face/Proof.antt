@@ -53,11 +53,17 @@ word-requires c κs = let d : tie.After-forth2 = c .before .before in state-in (
 word-requires-2 : tie.Need-word-requires-2
 word-requires-2 c κs = let d : tie.After-forth2 = c .before .before .before in state-in (start d .pre .flowing) (l d)
 
+-- a new height's place, which is the old height's too
 word-requires-3 : tie.Need-word-requires-3
-word-requires-3 c κs = let d : tie.After-forth2 = c .before .before .before .before in tide-in (start d .pre .flowing) (cell-k (start d .pre))
+word-requires-3 c κs =
+    let d : tie.After-forth2 = c .before .before .before .before in
+    let k = cell-k (start d .pre) in
+    omega (arith, state-in (start d .pre .flowing) k, tide-in (start d .pre .flowing) k)
 
 word-requires-4 : tie.Need-word-requires-4
-word-requires-4 c κs = let d : tie.After-forth2 = c .before .before .before .before .before in tide-in (start d .pre .flowing) (l d)
+word-requires-4 c κs =
+    let d : tie.After-forth2 = c .before .before .before .before .before in
+    omega (arith, state-in (start d .pre .flowing) (l d), tide-in (start d .pre .flowing) (l d))
 
 word-requires-5 : tie.Need-word-requires-5
 word-requires-5 c κs = let d : tie.After-forth2 = c .before .before .before .before .before .before in ground-in (start d .pre .flowing) (cell-k (start d .pre))

@@ -15,6 +15,16 @@ use Rattle.velocities.specs.Velocities.{newSpeeds, nextVelocities}
 use Rattle.velocities.proofs.passes.velocities.Statement.{statement}
 use Rattle.velocities.proofs.passes.velocities.Tie as tie
 
+-- the places, each from the one behind it
+abbrev start : tie.After-pass → tie.Start
+start c = c .before .before .before .before
+
+abbrev eastward : tie.Else1 → tie.After-pass
+eastward c = c .before .before
+
+abbrev passed : tie.After-pass2 → tie.Else1
+passed c = c .before .before
+
 cast-columns : tie.Need-cast-columns
 cast-columns c = search needs
 
@@ -62,8 +72,7 @@ part-pass-end c = search needs
 
 pass-requires-2 : tie.Need-pass-requires-2
 unfolding across up
-pass-requires-2 c κs =
-    record { flowing = c .before .before .before .before .before .before .before .pre .flowing; long = search needs }
+pass-requires-2 c κs = record { flowing = start (eastward (c .before)) .pre .flowing; long = search needs }
 
 same-length-2 : tie.Need-same-length-2
 same-length-2 c = search needs
@@ -71,9 +80,10 @@ same-length-2 c = search needs
 returns-2 : tie.Need-returns-2
 unfolding newVelocitiesFit nextVelocities newSpeeds across up
 returns-2 c =
-    let card = c .before .before .before .before .before .before .before .before .before .args .card in
+    let d = passed (c .before) in
+    let card = start (eastward d) .args .card in
     let long : card .rows * suc (card .columns) ≡ card .rows * (card .columns + 1) = omega arith in
-    both-filled (c .before .before .before .before .before .pass .ensures) (not-false _ (c .before .before .before .if1 .left)) (c .before .pass2 .ensures)
+    both-filled (eastward d .pass .ensures) (not-false _ (d .if1 .left)) (c .before .pass2 .ensures)
     (λ first last. two-parts _ _ first last (length-grid _ _ _ ∙ long))
 
 pub velocities-spec : {M : Type 1} → statement M
