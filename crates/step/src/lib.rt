@@ -16,7 +16,7 @@ pub fn longest() -> [i32; 49408]
 }
 
 // A list as long as a state of 32 by 32 cells: on a small site it would take longer to clear the longest lists than to step.
-fn short() -> [i32; 3136]
+pub fn short() -> [i32; 3136]
     ensures { λ r. ⌜ length r ≡ 3136 ⌝ }
 {
     [0; 3136]
