@@ -1,7 +1,10 @@
 // The run: one step after another, with the tally handed from step to step.
+ghost use mathlib.Core.Path.{_≡_};
+ghost use lib.ListN.{length};
+ghost use Rattle.rules.specs.Site.{checkWith};
 ghost use Rattle.rules.specs.Run.{runAll};
 ghost use Rattle.rules.specs.Contracts.{RunContract};
-ghost use Rattle.run.specs.Running.{Ready, Roomy, Ended};
+ghost use Rattle.run.specs.Running.{Ready, Roomy, Small, Ended};
 use rules::Card;
 use rules::Tally;
 
@@ -37,7 +40,7 @@ fn steps(
     tally
 }
 
-// The same with a tide that is long enough for any site.
+// The same with a tide that may be longer.
 fn steps_in(
     card: Card,
     ground: &[i32],
@@ -52,6 +55,43 @@ fn steps_in(
     steps(card, ground, state, scratch, &mut tide[..n])
 }
 
+fn small_run(card: Card, ground: &[i32], state: &mut [i32], scratch: &mut [i32]) -> Tally
+    requires { ⌜ Small card (now ground) (now state) (now scratch) ⌝ }
+    ensures { λ r. ⌜ Ended (runAll card (now (ground .entry)) (now (state .entry))) r (now (state .exit)) ⌝ }
+{
+    let mut tide = step::short();
+    steps_in(card, ground, state, scratch, &mut tide)
+}
+
+fn large_run(card: Card, ground: &[i32], state: &mut [i32], scratch: &mut [i32]) -> Tally
+    requires { ⌜ checkWith card (now ground) (now state) (length (now scratch)) ≡ 0 ⌝ }
+    ensures { λ r. ⌜ Ended (runAll card (now (ground .entry)) (now (state .entry))) r (now (state .exit)) ⌝ }
+{
+    let mut tide = step::longest();
+    steps_in(card, ground, state, scratch, &mut tide)
+}
+
+// A run over a tide that has room for so many words; where the state has more, it calls itself for the longest tide. As in a step, this keeps the tide out of
+// the stack frame of a refused run, and the long one out of that of a small site.
+fn run_within(
+    card: Card,
+    ground: &[i32],
+    state: &mut [i32],
+    scratch: &mut [i32],
+    room: usize,
+) -> Tally
+    requires { ⌜ checkWith card (now ground) (now state) (length (now scratch)) ≡ 0 ⌝ }
+    ensures { λ r. ⌜ Ended (runAll card (now (ground .entry)) (now (state .entry))) r (now (state .exit)) ⌝ }
+{
+    if state.len() > room {
+        return run_within(card, ground, state, scratch, 49408);
+    }
+    if room <= 3136 {
+        return small_run(card, ground, state, scratch);
+    }
+    large_run(card, ground, state, scratch)
+}
+
 // A run: its tally, the last accepted state in the place of the first, and the scratch list all zero. Reasons 1 to 3 leave both lists as they were lent.
 pub fn run(card: Card, ground: &[i32], state: &mut [i32], scratch: &mut [i32]) -> Tally
     ensures { λ r. ⌜ RunContract card (now (ground .entry)) (now (state .entry)) (now (scratch .entry)) r (now (state .exit)) (now (scratch .exit)) ⌝ }
@@ -64,8 +104,7 @@ pub fn run(card: Card, ground: &[i32], state: &mut [i32], scratch: &mut [i32]) -
             top: 0,
         };
     }
-    let mut tide = step::longest();
-    let tally = steps_in(card, ground, state, scratch, &mut tide);
+    let tally = run_within(card, ground, state, scratch, 3136);
     lists::clear(scratch);
     tally
 }

@@ -16,14 +16,8 @@ same-length c = search needs
 returns : tie.Need-returns
 returns c = refused _ _ _ _ _ (c .before .check-with .ensures) (c .if1 .taken)
 
-longest-requires : tie.Need-longest-requires
-longest-requires c κs = search needs
-
-slice-aggregate-steps-in : tie.Need-slice-aggregate-steps-in
-slice-aggregate-steps-in c = search needs
-
-steps-in-requires : tie.Need-steps-in-requires
-steps-in-requires c κs = search needs
+run-within-requires : tie.Need-run-within-requires
+run-within-requires c κs = search needs
 
 clear-requires : tie.Need-clear-requires
 clear-requires c κs = search needs
@@ -36,9 +30,10 @@ same-length-3 c = search needs
 
 returns-2 : tie.Need-returns-2
 returns-2 c =
-    let s = c .before .before .before .before .before .before .before .before .before .before .before .before .before .before in
-    ran _ _ _ _ (sym (c .before .before .before .before .before .before .before .before .before .before .before .before .check-with .ensures) ∙ c .before .before .before .before .before .before .before .before .before .before .before .if1 .left) (c .before .before .before .before .before .before .steps-in .ensures)
-    (c .before .clear .ensures ∙ ap (λ (n : ℕ). replicate n (pos 0)) (c .before .before .before .before .before .before .steps-in .kept .1 .1 .1 .0))
+    let ran-over = c .before .before .before .before .before in
+    let passed = ran-over .before .before .before in
+    ran _ _ _ _ (sym (passed .before .check-with .ensures) ∙ passed .if1 .left) (ran-over .run-within .ensures)
+    (c .before .clear .ensures ∙ ap (λ (n : ℕ). replicate n (pos 0)) (ran-over .run-within .kept .1 .1 .1 .0))
 
 pub run-spec : {M : Type 1} → statement M
 run-spec =
@@ -47,9 +42,7 @@ run-spec =
     check-with-requires
     same-length
     returns
-    longest-requires
-    slice-aggregate-steps-in
-    steps-in-requires
+    run-within-requires
     clear-requires
     same-length-2
     same-length-3

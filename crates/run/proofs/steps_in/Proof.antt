@@ -1,11 +1,11 @@
 use mathlib.Core.Path.{sym}
 use borrow.Author.Needs.{needs}
-use Rattle.run.proofs.Answers.{tide-room, tide-part, ready}
+use Rattle.run.proofs.Answers.{tide-part, ready}
 use Rattle.run.proofs.steps_in.Statement.{statement}
 use Rattle.run.proofs.steps_in.Tie as tie
 
 slice-relend-prefix-steps : tie.Need-slice-relend-prefix-steps
-slice-relend-prefix-steps c = tide-room (c .before .before .pre)
+slice-relend-prefix-steps c = c .before .before .pre .tide-room
 
 slice-aggregate-steps : tie.Need-slice-aggregate-steps
 slice-aggregate-steps c = sym (tide-part (c .before .before .before .pre))
