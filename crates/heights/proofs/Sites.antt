@@ -1,4 +1,4 @@
--- What a state that passes the first three checks gives to a function that reads it: places that lie in it, and numbers in their ranges.
+-- What the state of a sound site gives to a function that reads it: places that lie in it, and numbers in their ranges.
 use mathlib.Core.Path.{_≡_, sym, subst}
 use mathlib.Core.Bool.{Bool, true, false}
 use mathlib.Core.List.{List}
@@ -10,15 +10,14 @@ use lib.Dec.{T, le→leb}
 use mir.Val.{toZ, ofZ}
 use mir.Syntax.{w32}
 use Rattle.rules.specs.declared.Card.{Card}
-use Rattle.rules.specs.Site.{readGround, readState, cardFits, lengthsFit, valuesFit, groundsFit, heightsFit, velocitiesFit, wallsStill, check}
+use Rattle.rules.specs.Site.{readGround, readState, valuesFit, groundsFit, heightsFit, velocitiesFit, wallsStill}
 use Rattle.laws.specs.Sizes.{Within}
 use Rattle.laws.specs.Signed.{word-is}
 use Rattle.laws.specs.Tests.{four-of, to-T}
-use Rattle.laws.specs.Checks.{apart}
-use Rattle.laws.specs.Facts.{Fits, check-facts}
+use Rattle.laws.specs.Facts.{Fits, sound-facts}
 use Rattle.laws.specs.Bounded as bounded
 use Rattle.heights.specs.Places.{HeightPlace, FaceIn, FacePlace}
-use Rattle.heights.specs.Known.{Sound, Limited}
+use Rattle.heights.specs.Known.{SoundState, Limited}
 use Rattle.heights.specs.Ways.{across, up, side, speeds, transfers}
 use Rattle.face.specs.Ranges.{Height, Speed, Time, Side}
 
@@ -33,9 +32,9 @@ high : (z : ℤ) (n : ℕ) → T (leZ (pos 0) z) → natAbs z ≤ n → T (leZ z
 high (pos k) n t h = le→leb k n h
 high (negsuc k) n t h = absurd t
 
-module _ {c : Card} {s : List ℤ} (sound : Sound c s) where
+module _ {c : Card} {s : List ℤ} (sound : SoundState c s) where
   pub facts : Fits c (sound .ground) s
-  facts = check-facts c (sound .ground) s (sound .passes)
+  facts = sound-facts c (sound .ground) s (sound .site)
 
   -- ---- places
 
@@ -72,12 +71,11 @@ module _ {c : Card} {s : List ℤ} (sound : Sound c s) where
   side-fits false = record { low = facts .card .dy-low; high = facts .card .dy-high }
 
   pub depths : T (heightsFit c (readState c s))
-  unfolding check valuesFit
+  unfolding valuesFit
   depths =
-      let g = sound .ground in
+      let g = readGround c (sound .ground) in
       let w = readState c s in
-      let values = apart (cardFits c) (lengthsFit c g s) (valuesFit c (readGround c g) w) (sound .passes) .values in
-      four-of (groundsFit c (readGround c g)) (heightsFit c w) (velocitiesFit c w) (wallsStill c w) (to-T values) .two
+      four-of (groundsFit c g) (heightsFit c w) (velocitiesFit c w) (wallsStill c w) (to-T (sound .site .values)) .two
 
 -- ---- under the step limit: what crosses a face is at most a height
 

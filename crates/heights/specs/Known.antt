@@ -6,27 +6,28 @@ use Prim.Native.Nat.{ℕ, suc, _+_, _*_, _<_}
 use lib.IntN.{ℤ}
 use lib.ListN.{length, drop}
 use Rattle.rules.specs.declared.Card.{Card}
-use Rattle.rules.specs.Site.{readState, stateLength, check}
+use Rattle.rules.specs.Site.{readState, stateLength}
 use Rattle.rules.specs.Step.{transfer, limitKept}
 use Rattle.laws.specs.Sizes.{Within}
+use Rattle.laws.specs.Facts.{Sound}
 use Rattle.face.specs.Ranges.{InTransfer}
 use Rattle.heights.specs.Places.{FaceIn}
 use Rattle.heights.specs.Tide.{crossings}
 use Rattle.heights.specs.Ways.{across, up}
 
--- a state that passes the first three checks, over some ground
-pub record Sound (c : Card) (s : List ℤ) : Type 0 where
+-- the state of a sound site, over some ground
+pub record SoundState (c : Card) (s : List ℤ) : Type 0 where
   pub ground : List ℤ
-  pub passes : check c ground s ≡ 0
+  pub site : Sound c ground s
 
 -- and each cell of which keeps the step limit
 pub record Limited (c : Card) (s : List ℤ) : Type 0 where
-  pub sound : Sound c s
+  pub sound : SoundState c s
   pub limit : limitKept c (readState c s) ≡ true
 
 -- a cell of such a state
 pub record SoundCell (c : Card) (s : List ℤ) (i j : ℕ) : Type 0 where
-  pub sound : Sound c s
+  pub sound : SoundState c s
   pub column : i < c .columns
   pub row : j < c .rows
 

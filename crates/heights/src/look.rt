@@ -2,7 +2,7 @@
 ghost use mathlib.Core.Path.{_≡_};
 ghost use Rattle.rules.specs.Site.{readState};
 ghost use Rattle.rules.specs.Step.{withinLimit, limitKept};
-ghost use Rattle.heights.specs.Known.{Sound, SoundCell};
+ghost use Rattle.heights.specs.Known.{SoundState, SoundCell};
 use super::cells;
 use rules::Card;
 
@@ -25,7 +25,7 @@ fn keeps_limit(card: Card, state: &[i32], i: usize, j: usize) -> bool
 
 // Whether every cell does.
 pub fn limit_kept(card: Card, state: &[i32]) -> bool
-    requires { ⌜ Sound card (now state) ⌝ }
+    requires { ⌜ SoundState card (now state) ⌝ }
     ensures { λ r. ⌜ r ≡ limitKept card (readState card (now (state .entry))) ⌝ }
 {
     let columns = card.columns as usize;

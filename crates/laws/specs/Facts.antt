@@ -209,12 +209,16 @@ check-facts c g s e = sound-facts c g s (check-sound c g s e)
 pub check-card : (c : Card) (g s : List ℤ) → check c g s ≡ 0 → cardFits c ≡ true
 check-card c g s e = check-sound c g s e .card
 
--- and the one more list is as long as the state
+-- where one more list is lent
+pub check-with-sound : (c : Card) (g s : List ℤ) (room : ℕ) → checkWith c g s room ≡ 0 → Sound c g s
+unfolding checkWith
+check-with-sound c g s room e = granted true (eqb room (stateLength c)) true c g s e .sound
+
+-- and that list is as long as the state
 pub check-with-facts : (c : Card) (g s : List ℤ) (room : ℕ) → checkWith c g s room ≡ 0 → Fits c g s × (room ≡ stateLength c)
 unfolding checkWith
 check-with-facts c g s room e =
-    let a = granted true (eqb room (stateLength c)) true c g s e in
-    (sound-facts c g s (a .sound), eqb→eq room (stateLength c) (a .for-2))
+    (sound-facts c g s (check-with-sound c g s room e), eqb→eq room (stateLength c) (granted true (eqb room (stateLength c)) true c g s e .for-2))
 
 -- it says the same as the check without that list, where the list is as long as the state
 pub check-own : (c : Card) (g s : List ℤ) → checkWith c g s (length s) ≡ check c g s

@@ -13,27 +13,25 @@ use Rattle.rules.specs.Site.{stateLength, checkWith}
 use Rattle.rules.specs.Run.{Outcome, runAfter, runAll}
 use Rattle.rules.specs.Calls.{runOutcome, runTally, runState, runScratch}
 use Rattle.rules.specs.Contracts.{RunContract}
-use Rattle.laws.specs.Facts.{Fits, check-with-facts, check-own}
+use Rattle.laws.specs.Facts.{check-with-sound, check-with-facts}
 use Rattle.laws.specs.Outcomes.{if-done, if-refused}
 use Rattle.laws.specs.Runs.{refused-after}
-use Rattle.run.specs.Running.{Ready, Roomy, Ended}
+use Rattle.run.specs.Running.{RunRoom, Roomy, Ended}
+
+-- no state is longer than the longest
+pub state-few : (c : Card) (g s x : List ℤ) → checkWith c g s (length x) ≡ 0 → length s ≤ 49408
+state-few c g s x e = let f = check-with-facts c g s (length x) e .0 in omega (arith, f .lengths .state, f .card .state-high)
 
 module _ {c : Card} {g s x t : List ℤ} (roomy : Roomy c g s x t) where
-  facts : Fits c g s
-  facts = check-with-facts c g s (length x) (roomy .passes) .0
-
-  pub tide-room : length s ≤ length t
-  tide-room = omega (arith, facts .lengths .state, facts .card .state-high, roomy .tide-long)
-
   pub tide-part : length (take (length s) t) ≡ length s
-  tide-part = length-take-le (length s) t tide-room
+  tide-part = length-take-le (length s) t (roomy .tide-room)
 
-  pub ready : Ready c g s x (take (length s) t)
-  ready =
-      let state : length s ≡ stateLength c = facts .lengths .state in
+  pub run-room : RunRoom c g s x (take (length s) t)
+  run-room =
+      let state : length s ≡ stateLength c = check-with-facts c g s (length x) (roomy .passes) .0 .lengths .state in
       let room : length x ≡ stateLength c = check-with-facts c g s (length x) (roomy .passes) .1 in
       record {
-        passes = sym (check-own c g s) ∙ ap (checkWith c g s) (state ∙ sym room) ∙ roomy .passes;
+        sound = check-with-sound c g s (length x) (roomy .passes);
         state-long = state;
         scratch-long = room;
         tide-long = tide-part ∙ state;

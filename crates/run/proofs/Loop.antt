@@ -10,41 +10,41 @@ use lib.Seq.{take-all}
 use Rattle.rules.specs.declared.Card.{Card}
 use Rattle.rules.specs.declared.Tally.{Tally}
 use Rattle.rules.specs.Grid.{greatest}
-use Rattle.rules.specs.Site.{cells, stateLength, check}
+use Rattle.rules.specs.Site.{cells, stateLength}
 use Rattle.rules.specs.Step.{stepNumber, nextState}
 use Rattle.rules.specs.Run.{Outcome, peak, started, accepted, stoppedFor, siteStep, runAll}
-use Rattle.laws.specs.Facts.{check-facts}
-use Rattle.laws.specs.Keeps.{keeps}
+use Rattle.laws.specs.Facts.{Sound, sound-facts}
+use Rattle.laws.specs.Keeps.{keeps-sound}
 use Rattle.laws.specs.Outcomes.{if-done}
 use Rattle.laws.specs.Runs.{LeadsTo, leads-from, leads-on, leads-nowhere, led}
 use Rattle.lists.specs.Renewed.{renewed}
 use Rattle.step.specs.Advance.{Advanced}
 use Rattle.run.specs.Running.{Ended}
 
--- after `done` accepted steps the tally is t and the state s, which still passes the checks; the steps that are left lead to the run's outcome
+-- after `done` accepted steps the tally is t and the state s, still of a sound site; the steps that are left lead to the run's outcome
 pub record Running (c : Card) (g s₀ s : List ℤ) (t : Tally) (done : ℕ) : Type 0 where
-  pub passes : check c g s ≡ 0
+  pub sound : Sound c g s
   pub long : length s ≡ stateLength c
   pub most : done ≤ c .steps
   pub counted : t .steps ≡ done
   pub leads : LeadsTo (siteStep c g) (c .steps) done t s (runAll c g s₀)
 
-pub few-steps : (c : Card) (g s : List ℤ) → check c g s ≡ 0 → c .steps ≤ 10000
-few-steps c g s e = check-facts c g s e .card .steps-high
+pub few-steps : (c : Card) (g s : List ℤ) → Sound c g s → c .steps ≤ 10000
+few-steps c g s e = sound-facts c g s e .card .steps-high
 
-pub cells-held : (c : Card) (g s : List ℤ) → check c g s ≡ 0 → cells c ≤ length s
-cells-held c g s e = check-facts c g s e .lengths .heights
+pub cells-held : (c : Card) (g s : List ℤ) → Sound c g s → cells c ≤ length s
+cells-held c g s e = sound-facts c g s e .lengths .heights
 
 -- the greatest height, as it was found
 pub peak-is : (c : Card) (s : List ℤ) (n : ℕ) {h : ℤ} → n ≡ cells c → h ≡ greatest n (λ k. getD s k (pos 0)) → h ≡ peak c s
 unfolding peak
 peak-is c s n e p = p ∙ ap (λ (m : ℕ). greatest m (λ k. getD s k (pos 0))) e
 
-pub begins : (c : Card) (g s : List ℤ) (h : ℤ) → check c g s ≡ 0 → h ≡ peak c s → Running c g s s (record { steps = 0; reason = 0; top = h }) 0
+pub begins : (c : Card) (g s : List ℤ) (h : ℤ) → Sound c g s → h ≡ peak c s → Running c g s s (record { steps = 0; reason = 0; top = h }) 0
 unfolding runAll started
 begins c g s h e p = record {
-  passes = e;
-  long = check-facts c g s e .lengths .state;
+  sound = e;
+  long = sound-facts c g s e .lengths .state;
   most = omega arith;
   counted = refl;
   leads = subst (λ (x : ℤ). LeadsTo (siteStep c g) (c .steps) 0 (record { steps = 0; reason = 0; top = x }) s (runAll c g s)) (sym p) (leads-from (siteStep c g) (c .steps) s);
@@ -66,11 +66,11 @@ module _ {c : Card} {g s₀ s : List ℤ} {t : Tally} {done : ℕ} (r : Running 
         let e : stepNumber c g s ≡ 0 = sym (a .number) ∙ z in
         let whole : take (length s) made ≡ made = take-all (length s) made (omega (arith, r .long)) in
         let new : s′ ≡ nextState c g s = is ∙ if-done k (take (length s) made) s z ∙ whole ∙ a .state z in
-        let kept : check c g s′ ≡ 0 = subst (λ (x : List ℤ). check c g x ≡ 0) (sym new) (keeps c g s (r .passes) e) in
+        let kept : Sound c g s′ = subst (λ (x : List ℤ). Sound c g x) (sym new) (keeps-sound c g s (r .sound) e) in
         let p : t′ ≡ accepted t (peak c (nextState c g s)) = taken ∙ ap (accepted t) (top ∙ ap (peak c) new) in
         record {
-          passes = kept;
-          long = check-facts c g s′ kept .lengths .state;
+          sound = kept;
+          long = sound-facts c g s′ kept .lengths .state;
           most = omega arith;
           counted = ap (λ (x : Tally). x .steps) taken ∙ ap (λ (n : ℕ). n + 1) (r .counted);
           leads =

@@ -1,11 +1,14 @@
 // The run: one step after another, with the tally handed from step to step.
+ghost use mathlib.Core.Path.{_≡_};
+ghost use lib.ListN.{length};
+ghost use Rattle.rules.specs.Site.{checkWith};
 ghost use Rattle.rules.specs.Run.{runAll};
 ghost use Rattle.rules.specs.Contracts.{RunContract};
-ghost use Rattle.run.specs.Running.{Ready, Roomy, Ended};
+ghost use Rattle.run.specs.Running.{RunRoom, Roomy, Small, Ended};
 use rules::Card;
 use rules::Tally;
 
-// All steps that are wanted, or as many as are accepted, of a site that passes the first three checks. Each next state is made in the scratch list.
+// All steps that are wanted, or as many as are accepted, of a sound site. Each next state is made in the scratch list.
 fn steps(
     card: Card,
     ground: &[i32],
@@ -13,15 +16,15 @@ fn steps(
     scratch: &mut [i32],
     tide: &mut [i32],
 ) -> Tally
-    requires { ⌜ Ready card (now ground) (now state) (now scratch) (now tide) ⌝ }
+    requires { ⌜ RunRoom card (now ground) (now state) (now scratch) (now tide) ⌝ }
     ensures { λ r. ⌜ Ended (runAll card (now (ground .entry)) (now (state .entry))) r (now (state .exit)) ⌝ }
 {
-    let cells = site::cells(card);
+    let cells = card::cells(card);
     let wanted = card.steps;
     let mut tally = Tally {
         steps: 0,
         reason: 0,
-        top: site::greatest(state, cells),
+        top: lists::greatest(state, cells),
     };
     let mut done: u32 = 0;
     while done < wanted {
@@ -31,13 +34,13 @@ fn steps(
             return tally;
         }
         lists::renew(state, scratch, number);
-        tally = tally.accept(site::greatest(state, cells));
+        tally = tally.accept(lists::greatest(state, cells));
         done += 1;
     }
     tally
 }
 
-// The same with a tide that is long enough for any site, and with the scratch list all zero at the end.
+// The same with a tide that may be longer, and with the scratch list all zero at the end.
 fn run_in(
     card: Card,
     ground: &[i32],
@@ -54,6 +57,43 @@ fn run_in(
     tally
 }
 
+fn small_run(card: Card, ground: &[i32], state: &mut [i32], scratch: &mut [i32]) -> Tally
+    requires { ⌜ Small card (now ground) (now state) (now scratch) ⌝ }
+    ensures { λ r. ⌜ RunContract card (now (ground .entry)) (now (state .entry)) (now (scratch .entry)) r (now (state .exit)) (now (scratch .exit)) ⌝ }
+{
+    let mut tide = step::short();
+    run_in(card, ground, state, scratch, &mut tide)
+}
+
+fn large_run(card: Card, ground: &[i32], state: &mut [i32], scratch: &mut [i32]) -> Tally
+    requires { ⌜ checkWith card (now ground) (now state) (length (now scratch)) ≡ 0 ⌝ }
+    ensures { λ r. ⌜ RunContract card (now (ground .entry)) (now (state .entry)) (now (scratch .entry)) r (now (state .exit)) (now (scratch .exit)) ⌝ }
+{
+    let mut tide = step::longest();
+    run_in(card, ground, state, scratch, &mut tide)
+}
+
+// A run over a tide that has room for so many words; where the state has more, it calls itself for the longest tide. As in a step, this keeps the tide out of
+// the stack frame of a refused run, and the long one out of that of a small site.
+fn run_within(
+    card: Card,
+    ground: &[i32],
+    state: &mut [i32],
+    scratch: &mut [i32],
+    room: usize,
+) -> Tally
+    requires { ⌜ checkWith card (now ground) (now state) (length (now scratch)) ≡ 0 ⌝ }
+    ensures { λ r. ⌜ RunContract card (now (ground .entry)) (now (state .entry)) (now (scratch .entry)) r (now (state .exit)) (now (scratch .exit)) ⌝ }
+{
+    if state.len() > room {
+        return run_within(card, ground, state, scratch, 49408);
+    }
+    if room <= 3136 {
+        return small_run(card, ground, state, scratch);
+    }
+    large_run(card, ground, state, scratch)
+}
+
 // A run: its tally, the last accepted state in the place of the first, and the scratch list all zero. Reasons 1 to 3 leave both lists as they were lent.
 pub fn run(card: Card, ground: &[i32], state: &mut [i32], scratch: &mut [i32]) -> Tally
     ensures { λ r. ⌜ RunContract card (now (ground .entry)) (now (state .entry)) (now (scratch .entry)) r (now (state .exit)) (now (scratch .exit)) ⌝ }
@@ -66,6 +106,5 @@ pub fn run(card: Card, ground: &[i32], state: &mut [i32], scratch: &mut [i32]) -
             top: 0,
         };
     }
-    let mut tide = step::longest();
-    run_in(card, ground, state, scratch, &mut tide)
+    run_within(card, ground, state, scratch, 3136)
 }

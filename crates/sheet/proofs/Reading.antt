@@ -19,7 +19,7 @@ use Rattle.laws.specs.Facts.{Sized, card-facts}
 use Rattle.laws.specs.Outcomes.{if-done, if-refused}
 use Rattle.laws.specs.Parts.{back-length}
 use Rattle.laws.specs.Words.{in-add}
-use Rattle.laws.specs.Sheets.{size-words, size-facts, read-facts, length-ground-in}
+use Rattle.laws.specs.Sheets.{size-words, size-facts, length-ground-in}
 use Rattle.sheet.specs.Front.{frontNumber, sheetValuesFit}
 use Rattle.sheet.specs.Lent.{Joined, Ready}
 
@@ -175,10 +175,6 @@ look-ready l n m d e h =
     record { within = omega arith; front = ap (frontNumber l n) j ∙ e }
 
 -- ---- the outcomes
-
--- a sheet that is read has no more words than the draft
-pub read-few : (l : List ℕ) (n m : ℕ) → readNumber l n m ≡ 0 → n + m ≤ 65792
-read-few l n m e = let r = read-facts l n m e in let k = card-facts (cardIn l) (r .card) in let s = r .sizes in omega arith
 
 module _ (l : List ℕ) (ground state : List ℤ) (r : ℕ) (e : r ≡ readNumber l (length ground) (length state)) where
   abbrev number : ℕ

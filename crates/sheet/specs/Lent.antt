@@ -25,6 +25,12 @@ pub record Ready (l : List ℕ) (n : ℕ) (words : List ℤ) : Type 0 where
   pub within : n ≤ length words
   pub front : frontNumber l n (length words - n) ≡ 0
 
--- room in a draft for n words, if a sheet can have so many: that of 128 by 128 cells has 65,792
-pub record Room (n : ℕ) (draft : List ℤ) : Type 0 where
-  pub room : n ≤ 65792 → n ≤ length draft
+-- a sheet whose values decide, for lists of n and m words, and room for both in a draft
+pub record Room (l : List ℕ) (n m : ℕ) (draft : List ℤ) : Type 0 where
+  pub front : frontNumber l n m ≡ 0
+  pub room : n + m ≤ length draft
+
+-- the same with at most so many words that a short draft does
+pub record Small (l : List ℕ) (n m : ℕ) : Type 0 where
+  pub front : frontNumber l n m ≡ 0
+  pub few : n + m ≤ 4160

@@ -7,7 +7,7 @@ ghost use lib.ListN.{length, take, drop};
 ghost use Rattle.rules.specs.Site.{cells, stateLength, cardFits, valuesFit, readGround, readState};
 ghost use Rattle.rules.specs.Sheet.{cardIn, groundIn, stateIn, headFits, sheetSize, readNumber, noCard};
 ghost use Rattle.rules.specs.Contracts.{ReadContract};
-ghost use Rattle.sheet.specs.Lent.{Joined, Ready, Room};
+ghost use Rattle.sheet.specs.Lent.{Joined, Ready, Room, Small};
 ghost use Rattle.sheet.specs.Front.{frontNumber, sheetValuesFit};
 use rules::Card;
 use rules::Heard;
@@ -108,16 +108,12 @@ fn read_words(sheet: &[u8], n: usize, words: &mut [i32]) -> bool
     words_fit(card, words, n)
 }
 
-// The reader's number for lists of n and m words. Where it is 0, the draft begins with the sheet's ground and state.
+// The reader's number where the values decide it: 3 or 0. Where it is 0, the draft begins with the sheet's ground and state, of n and m words.
 fn look(sheet: &[u8], n: usize, m: usize, draft: &mut [i32]) -> u32
-    requires { ⌜ Room (n + m) (now draft) ⌝ }
+    requires { ⌜ Room (now sheet) n m (now draft) ⌝ }
     ensures number { λ r. ⌜ r ≡ readNumber (now (sheet .entry)) n m ⌝ }
     ensures words { λ r. ⌜ (r ≡ 0 → take (n + m) (now (draft .exit)) ≡ groundIn (now (sheet .entry)) ++ stateIn (now (sheet .entry))) ⌝ }
 {
-    let front = front_number(sheet, n, m);
-    if front != 0 {
-        return front;
-    }
     let end = n + m;
     if !read_words(sheet, n, &mut draft[..end]) {
         return 3;
@@ -140,7 +136,7 @@ fn no_card() -> Card
 
 // The reader over a draft.
 fn read_over(sheet: &[u8], ground: &mut [i32], state: &mut [i32], draft: &mut [i32]) -> Heard
-    requires { ⌜ Room (length (now ground) + length (now state)) (now draft) ⌝ }
+    requires { ⌜ Room (now sheet) (length (now ground)) (length (now state)) (now draft) ⌝ }
     ensures { λ r. ⌜ ReadContract (now (sheet .entry)) (now (ground .entry)) (now (state .entry)) r (now (ground .exit)) (now (state .exit)) ⌝ }
 {
     let n = ground.len();
@@ -157,31 +153,50 @@ fn read_over(sheet: &[u8], ground: &mut [i32], state: &mut [i32], draft: &mut [i
     Heard { number: 0, card }
 }
 
-// The reader over a short draft. Each draft has a function of its own, so that no stack frame holds both.
 fn read_small(sheet: &[u8], ground: &mut [i32], state: &mut [i32]) -> Heard
-    requires { ⌜ length (now ground) + length (now state) ≤ 4160 ⌝ }
+    requires { ⌜ Small (now sheet) (length (now ground)) (length (now state)) ⌝ }
     ensures { λ r. ⌜ ReadContract (now (sheet .entry)) (now (ground .entry)) (now (state .entry)) r (now (ground .exit)) (now (state .exit)) ⌝ }
 {
     let mut draft = short();
     read_over(sheet, ground, state, &mut draft)
 }
 
-// The reader over the longest draft.
 fn read_large(sheet: &[u8], ground: &mut [i32], state: &mut [i32]) -> Heard
+    requires { ⌜ frontNumber (now sheet) (length (now ground)) (length (now state)) ≡ 0 ⌝ }
     ensures { λ r. ⌜ ReadContract (now (sheet .entry)) (now (ground .entry)) (now (state .entry)) r (now (ground .exit)) (now (state .exit)) ⌝ }
 {
     let mut draft = longest();
     read_over(sheet, ground, state, &mut draft)
 }
 
+// The reader over a draft that has room for so many words; where the lists have more, it calls itself for the longest draft. As in a step, this keeps the draft
+// out of the stack frame of a sheet that is refused by its front, and the long one out of that of a small site.
+fn read_within(sheet: &[u8], ground: &mut [i32], state: &mut [i32], room: usize) -> Heard
+    requires { ⌜ frontNumber (now sheet) (length (now ground)) (length (now state)) ≡ 0 ⌝ }
+    ensures { λ r. ⌜ ReadContract (now (sheet .entry)) (now (ground .entry)) (now (state .entry)) r (now (ground .exit)) (now (state .exit)) ⌝ }
+{
+    if ground.len() + state.len() > room {
+        return read_within(sheet, ground, state, 65792);
+    }
+    if room <= 4160 {
+        return read_small(sheet, ground, state);
+    }
+    read_large(sheet, ground, state)
+}
+
 // The site of a sheet.
 pub fn read_sheet(sheet: &[u8], ground: &mut [i32], state: &mut [i32]) -> Heard
     ensures { λ r. ⌜ ReadContract (now (sheet .entry)) (now (ground .entry)) (now (state .entry)) r (now (ground .exit)) (now (state .exit)) ⌝ }
 {
-    if ground.len() + state.len() <= 4160 {
-        return read_small(sheet, ground, state);
+    let front = front_number(sheet, ground.len(), state.len());
+    if front != 0 {
+        let card = no_card();
+        return Heard {
+            number: front,
+            card,
+        };
     }
-    read_large(sheet, ground, state)
+    read_within(sheet, ground, state, 4160)
 }
 
 // The reader's number where its lists are cut to the header's size, over a draft.
@@ -196,7 +211,13 @@ fn own_number_over(sheet: &[u8], draft: &mut [i32]) -> u32
     if !site::card_fits(card) {
         return 1;
     }
-    look(sheet, site::cells(card), site::state_length(card), draft)
+    let n = site::cells(card);
+    let m = site::state_length(card);
+    let refusal = front_number(sheet, n, m);
+    if refusal != 0 {
+        return refusal;
+    }
+    look(sheet, n, m, draft)
 }
 
 // The reader's number where its lists are cut to the header's size.

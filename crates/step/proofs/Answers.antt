@@ -8,35 +8,36 @@ use borrow.Author.Tests.{not-true, not-false}
 use lib.IntN.{ℤ}
 use lib.ListN.{length, drop}
 use Rattle.rules.specs.declared.Card.{Card}
-use Rattle.rules.specs.Site.{readGround, readState, stateLength, check}
+use Rattle.rules.specs.Site.{readGround, readState, stateLength}
 use Rattle.rules.specs.Step.{limitKept, newHeightsFit, sharesFit, newVelocity, newVelocitiesFit, answer, number, stepNumberBy, stepNumber, nextState}
 use Rattle.laws.specs.Reading.{Holds}
 use Rattle.laws.specs.Tested.{Filled}
+use Rattle.laws.specs.Facts.{Sound}
 use Rattle.heights.specs.Tide.{tide, crossings, tideFits}
-use Rattle.heights.specs.Known.{Sound, Limited, TideRoom, Crossed}
+use Rattle.heights.specs.Known.{SoundState, Limited, TideRoom, Crossed}
 use Rattle.heights.proofs.Tides.{tide-heights}
 use Rattle.velocities.specs.Faces.{Flowing}
-use Rattle.step.specs.Advance.{Ready, NextRoom, Advanced}
+use Rattle.step.specs.Advance.{StepRoom, NextRoom, Advanced}
 
-module _ {c : Card} {g s t n : List ℤ} (ready : Ready c g s t n) where
-  pub sound : Sound c s
-  sound = record { ground = g; passes = ready .passes }
+module _ {c : Card} {g s t n : List ℤ} (room : StepRoom c g s t n) where
+  pub sound : SoundState c s
+  sound = record { ground = g; site = room .sound }
 
 -- the look at the step limit
-module _ {c : Card} {g s t n : List ℤ} (ready : Ready c g s t n) {kept : Bool} (looked : kept ≡ limitKept c (readState c s)) where
+module _ {c : Card} {g s t n : List ℤ} (room : StepRoom c g s t n) {kept : Bool} (looked : kept ≡ limitKept c (readState c s)) where
   -- 4
   pub limit-broken : {m : List ℤ} → not kept ≡ true → Advanced c g s 4 m
   unfolding stepNumber stepNumberBy number answer
   limit-broken b = let l : limitKept c (readState c s) ≡ false = sym looked ∙ not-true kept b in record { number = rw l; state = λ e. absurd (suc-ne-zero 3 e) }
 
   pub limited : not kept ≡ false → Limited c s
-  limited b = record { sound = sound ready; limit = sym looked ∙ not-false kept b }
+  limited b = record { sound = sound room; limit = sym looked ∙ not-false kept b }
 
   pub tide-room : not kept ≡ false → TideRoom c s t
-  tide-room b = record { limited = limited b; long = ready .tide }
+  tide-room b = record { limited = limited b; long = room .tide }
 
   pub crossed : not kept ≡ false → {t′ : List ℤ} → length t′ ≡ length t → drop (c .rows * c .columns) t′ ≡ crossings c (readState c s) → Crossed c s t′
-  crossed b long is = record { limited = limited b; long = long ∙ ready .tide; crossed = is }
+  crossed b long is = record { limited = limited b; long = long ∙ room .tide; crossed = is }
 
 -- the new heights, in a tide
 module _ {c : Card} {s t : List ℤ} (limited : Limited c s) (holds : Holds c (tide c (readState c s)) t) {fit : Bool} (looked : fit ≡ tideFits c t) where
@@ -50,8 +51,8 @@ module _ {c : Card} {s t : List ℤ} (limited : Limited c s) (holds : Holds c (t
       let h : newHeightsFit c (readState c s) ≡ false = sym fit-is ∙ not-true fit b in
       record { number = rw (limited .limit, h); state = λ e. absurd (suc-ne-zero 4 e) }
 
-  pub next-room : not fit ≡ false → {g : List ℤ} → check c g s ≡ 0 → {n : List ℤ} → length n ≡ stateLength c → NextRoom c g s t n
-  next-room b passes long = record { flowing = record { passes = passes; limit = limited .limit; heights = sym fit-is ∙ not-false fit b; tide = holds }; long = long }
+  pub next-room : not fit ≡ false → {g : List ℤ} → Sound c g s → {n : List ℤ} → length n ≡ stateLength c → NextRoom c g s t n
+  next-room b sound long = record { flowing = record { sound = sound; limit = limited .limit; heights = sym fit-is ∙ not-false fit b; tide = holds }; long = long }
 
 -- own shares and new velocities
 module _ {c : Card} {g s t : List ℤ} (flowing : Flowing c g s t) {shared : Bool} (looked : shared ≡ sharesFit c (readGround c g) (readState c s)) where

@@ -11,10 +11,10 @@ use Rattle.rules.specs.Site.{stateLength, checkWith, ifDone}
 use Rattle.rules.specs.Step.{stepNumber, nextState}
 use Rattle.rules.specs.Calls.{stepAnswer, stepNext}
 use Rattle.rules.specs.Contracts.{StepContract}
-use Rattle.laws.specs.Facts.{check-with-facts, check-own}
+use Rattle.laws.specs.Facts.{check-with-sound, check-with-facts}
 use Rattle.laws.specs.Outcomes.{first-refused, first-passed, if-refused, if-same}
 use Rattle.lists.specs.Renewed.{renewed}
-use Rattle.step.specs.Advance.{Ready, Advanced}
+use Rattle.step.specs.Advance.{StepRoom, Advanced}
 use Rattle.step.specs.Draft.{Drafting}
 
 -- ---- the checks passed
@@ -37,15 +37,8 @@ module _ {c : Card} {g s t d n : List ℤ} (drafting : Drafting c g s t d n) whe
   pub state-room : length n ≤ length s
   state-room = omega (arith, room-long, check-with-facts c g s (length n) (drafting .passes) .0 .lengths .state)
 
-  pub ready : Ready c g s (take (length n) t) (take (length n) d)
-  ready =
-      let facts = check-with-facts c g s (length n) (drafting .passes) .0 in
-      let same : length s ≡ length n = facts .lengths .state ∙ sym room-long in
-      record {
-        passes = sym (check-own c g s) ∙ ap (checkWith c g s) same ∙ drafting .passes;
-        tide = tide-part ∙ room-long;
-        next = draft-part ∙ room-long;
-      }
+  pub step-room : StepRoom c g s (take (length n) t) (take (length n) d)
+  step-room = record { sound = check-with-sound c g s (length n) (drafting .passes); tide = tide-part ∙ room-long; next = draft-part ∙ room-long }
 
   -- ---- what was worked out in the front of the draft
 

@@ -1,17 +1,18 @@
--- What one step of a site that passes the first three checks requires of its lists, and what it gives.
+-- What one step of a sound site requires of its lists, and what it gives.
 use mathlib.Core.Path.{_≡_}
 use mathlib.Core.List.{List}
 use Prim.Native.Nat.{ℕ}
 use lib.IntN.{ℤ}
 use lib.ListN.{length}
 use Rattle.rules.specs.declared.Card.{Card}
-use Rattle.rules.specs.Site.{stateLength, check}
+use Rattle.rules.specs.Site.{stateLength}
 use Rattle.rules.specs.Step.{stepNumber, nextState}
+use Rattle.laws.specs.Facts.{Sound}
 use Rattle.velocities.specs.Faces.{Flowing}
 
 -- a tide and a next state, both in the state's layout
-pub record Ready (c : Card) (g s t n : List ℤ) : Type 0 where
-  pub passes : check c g s ≡ 0
+pub record StepRoom (c : Card) (g s t n : List ℤ) : Type 0 where
+  pub sound : Sound c g s
   pub tide : length t ≡ stateLength c
   pub next : length n ≡ stateLength c
 

@@ -1,8 +1,8 @@
-// One step of a site that passes the first three checks, with a tide to work in.
+// One step of a sound site, with a tide to work in.
 ghost use Rattle.rules.specs.Site.{readGround, readState};
 ghost use Rattle.rules.specs.Step.{newVelocity, newVelocitiesFit, nextState};
 ghost use Rattle.laws.specs.Tested.{Filled};
-ghost use Rattle.step.specs.Advance.{Ready, NextRoom, Advanced};
+ghost use Rattle.step.specs.Advance.{StepRoom, NextRoom, Advanced};
 use rules::Card;
 
 // Fills the next state: its heights from the tide, and the velocities behind them. Where a velocity does not fit, nothing is promised of its words.
@@ -33,7 +33,7 @@ fn move_on(card: Card, ground: &[i32], state: &[i32], tide: &[i32], next: &mut [
 
 // The step's number. Where it is 0, `next` is the next state; otherwise nothing is promised of its words.
 pub fn advance(card: Card, ground: &[i32], state: &[i32], tide: &mut [i32], next: &mut [i32]) -> u32
-    requires { ⌜ Ready card (now ground) (now state) (now tide) (now next) ⌝ }
+    requires { ⌜ StepRoom card (now ground) (now state) (now tide) (now next) ⌝ }
     ensures { λ r. ⌜ Advanced card (now (ground .entry)) (now (state .entry)) r (now (next .exit)) ⌝ }
 {
     if !heights::look::limit_kept(card, state) {

@@ -16,7 +16,7 @@ pub fn longest() -> [i32; 49408]
 }
 
 // A list as long as a state of 32 by 32 cells: on a small site it would take longer to clear the longest lists than to step.
-fn short() -> [i32; 3136]
+pub fn short() -> [i32; 3136]
     ensures { λ r. ⌜ length r ≡ 3136 ⌝ }
 {
     [0; 3136]
@@ -58,6 +58,21 @@ fn large_step(card: Card, ground: &[i32], state: &[i32], next: &mut [i32]) -> u3
     step_by_draft(card, ground, state, &mut tide, &mut draft, next)
 }
 
+// A step on lists that have room for so many words; where the state has more, it calls itself for the longest lists. The compiler keeps a function that calls
+// itself, and the lists of those that it calls, out of its caller's stack frame: so a refused step takes no list's stack, and a small one no long list's.
+fn step_within(card: Card, ground: &[i32], state: &[i32], next: &mut [i32], room: usize) -> u32
+    requires { ⌜ checkWith card (now ground) (now state) (length (now next)) ≡ 0 ⌝ }
+    ensures { λ r. ⌜ StepContract card (now (ground .entry)) (now (state .entry)) (now (next .entry)) r (now (next .exit)) ⌝ }
+{
+    if next.len() > room {
+        return step_within(card, ground, state, next, 49408);
+    }
+    if room <= 3136 {
+        return small_step(card, ground, state, next);
+    }
+    large_step(card, ground, state, next)
+}
+
 // One step.
 pub fn step(card: Card, ground: &[i32], state: &[i32], next: &mut [i32]) -> u32
     ensures { λ r. ⌜ StepContract card (now (ground .entry)) (now (state .entry)) (now (next .entry)) r (now (next .exit)) ⌝ }
@@ -66,8 +81,5 @@ pub fn step(card: Card, ground: &[i32], state: &[i32], next: &mut [i32]) -> u32
     if refusal != 0 {
         return refusal;
     }
-    if next.len() <= 3136 {
-        return small_step(card, ground, state, next);
-    }
-    large_step(card, ground, state, next)
+    step_within(card, ground, state, next, 3136)
 }

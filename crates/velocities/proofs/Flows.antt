@@ -14,7 +14,7 @@ use Rattle.rules.specs.Step.{newHeight}
 use Rattle.laws.specs.Places.{height-in}
 use Rattle.laws.specs.Reading.{long-of, height-read, east-read, north-read}
 use Rattle.heights.proofs.Sites.{facts}
-use Rattle.heights.specs.Known.{Sound}
+use Rattle.heights.specs.Known.{SoundState}
 use Rattle.heights.specs.Tide.{tide}
 use Rattle.heights.specs.Ways.{across, up, speeds, transfers}
 use Rattle.heights.specs.Places.{FaceIn, FacePlace}
@@ -22,8 +22,8 @@ use Rattle.velocities.specs.Faces.{Flowing}
 use Rattle.velocities.proofs.Around.{Cell}
 
 module _ {c : Card} {g s t : List ℤ} (f : Flowing c g s t) where
-  abbrev pub sound-of : Sound c s
-  sound-of = record { ground = g; passes = f .passes }
+  abbrev pub sound-of : SoundState c s
+  sound-of = record { ground = g; site = f .sound }
 
   -- at a cell: its ground and its new height, and the places of these and of its old height
   module _ {i j : ℕ} (k : Cell c i j) where

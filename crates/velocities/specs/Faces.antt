@@ -7,15 +7,16 @@ use lib.IntN.{ℤ}
 use Rattle.rules.specs.declared.Card.{Card}
 use Rattle.rules.specs.declared.Face.{Face}
 use Rattle.rules.specs.Grid.{Field}
-use Rattle.rules.specs.Site.{Water, readState, check}
+use Rattle.rules.specs.Site.{Water, readState}
 use Rattle.rules.specs.Step.{limitKept, newHeightsFit, eastFace, northFace}
 use Rattle.laws.specs.Reading.{Holds}
+use Rattle.laws.specs.Facts.{Sound}
 use Rattle.heights.specs.Tide.{tide}
 use Rattle.heights.specs.Ways.{forth}
 
--- a site that passes the first three checks and keeps the step limit, with new heights in their range and the tide at hand
+-- a sound site that keeps the step limit, with new heights in their range and the tide at hand
 pub record Flowing (c : Card) (g s t : List ℤ) : Type 0 where
-  pub passes : check c g s ≡ 0
+  pub sound : Sound c g s
   pub limit : limitKept c (readState c s) ≡ true
   pub heights : newHeightsFit c (readState c s) ≡ true
   pub tide : Holds c (tide c (readState c s)) t

@@ -12,14 +12,8 @@ same-length c = search needs
 returns : tie.Need-returns
 returns c = refused _ _ _ _ _ (c .before .check-with .ensures) (c .if1 .taken)
 
-longest-requires : tie.Need-longest-requires
-longest-requires c κs = search needs
-
-slice-aggregate-run-in : tie.Need-slice-aggregate-run-in
-slice-aggregate-run-in c = search needs
-
-run-in-requires : tie.Need-run-in-requires
-run-in-requires c κs = search needs
+run-within-requires : tie.Need-run-within-requires
+run-within-requires c κs = search needs
 
 same-length-2 : tie.Need-same-length-2
 same-length-2 c = search needs
@@ -31,15 +25,4 @@ returns-2 : tie.Need-returns-2
 returns-2 c = search needs
 
 pub run-spec : {M : Type 1} → statement M
-run-spec =
-    tie.close
-    (tie.spec
-    check-with-requires
-    same-length
-    returns
-    longest-requires
-    slice-aggregate-run-in
-    run-in-requires
-    same-length-2
-    same-length-3
-    returns-2)
+run-spec = tie.close (tie.spec check-with-requires same-length returns run-within-requires same-length-2 same-length-3 returns-2)

@@ -3,7 +3,7 @@ use Prim.Native.Nat.{ℕ}
 use lib.IntN.{pos}
 use lib.ListN.{replicate}
 use borrow.Author.Needs.{needs}
-use Rattle.run.proofs.Answers.{tide-room, tide-part, ready, ran}
+use Rattle.run.proofs.Answers.{tide-part, run-room, ran}
 use Rattle.run.proofs.run_in.Statement.{statement}
 use Rattle.run.proofs.run_in.Tie as tie
 
@@ -15,13 +15,13 @@ abbrev stepped : tie.After-clear → tie.After-steps
 stepped c = c .before .before .before .before .before
 
 slice-relend-prefix-steps : tie.Need-slice-relend-prefix-steps
-slice-relend-prefix-steps c = tide-room (c .before .before .pre)
+slice-relend-prefix-steps c = c .before .before .pre .tide-room
 
 slice-aggregate-steps : tie.Need-slice-aggregate-steps
 slice-aggregate-steps c = sym (tide-part (start c .pre))
 
 steps-requires : tie.Need-steps-requires
-steps-requires c κs = ready (start c .pre)
+steps-requires c κs = run-room (start c .pre)
 
 clear-requires : tie.Need-clear-requires
 clear-requires c κs = search needs

@@ -5,7 +5,6 @@ use lib.ListN.{length}
 use borrow.Author.Needs.{needs}
 use mir.Facts.{toZ-ofZ}
 use Rattle.rules.specs.Site.{stateLength}
-use Rattle.laws.specs.Facts.{check-card}
 use Rattle.run.proofs.Loop.{Running, few-steps, cells-held, peak-is, begins, stops, goes-on, ends}
 use Rattle.run.proofs.steps.Statement.{statement}
 use Rattle.run.proofs.steps.Tie as tie
@@ -44,20 +43,20 @@ stepped c = entered (accepted (passed (renewed c)))
 -- ---- before the loop
 
 cells-requires : tie.Need-cells-requires Inv-loop μ-loop
-cells-requires c κs = check-card _ _ _ (c .pre .passes)
+cells-requires c κs = c .pre .sound .card
 
 greatest-requires : tie.Need-greatest-requires Inv-loop μ-loop
-greatest-requires c κs = omega (arith, c .before .cells .ensures .0, cells-held _ _ _ (c .before .before .pre .passes))
+greatest-requires c κs = omega (arith, c .before .cells .ensures .0, cells-held _ _ _ (c .before .before .pre .sound))
 
 loop-holds : tie.Need-loop-holds Inv-loop μ-loop
 loop-holds c =
     let p = counted c .before .pre in
-    (begins _ _ _ _ (p .passes) (toZ-ofZ (record { sfits = c .greatest .ok }) ∙ peak-is _ _ _ (counted c .cells .ensures .0) (c .greatest .ensures)), p .scratch-long, p .tide-long)
+    (begins _ _ _ _ (p .sound) (toZ-ofZ (record { sfits = c .greatest .ok }) ∙ peak-is _ _ _ (counted c .cells .ensures .0) (c .greatest .ensures)), p .scratch-long, p .tide-long)
 
 -- ---- one turn
 
 advance-requires : tie.Need-advance-requires Inv-loop μ-loop
-advance-requires c κs = let i = c .before .before .before .before .loop .inv in record { passes = i .0 .passes; tide = i .2; next = i .1 }
+advance-requires c κs = let i = c .before .before .before .before .loop .inv in record { sound = i .0 .sound; tide = i .2; next = i .1 }
 
 same-length : tie.Need-same-length Inv-loop μ-loop
 same-length c = search needs
@@ -79,18 +78,18 @@ renew-requires c κs = search needs
 greatest-requires-2 : tie.Need-greatest-requires-2 Inv-loop μ-loop
 greatest-requires-2 c κs =
     let d = stepped c .before in
-    omega (arith, counted (d .before) .cells .ensures .0, cells-held _ _ _ (d .loop .inv .0 .passes), renewed c .renew .kept .0)
+    omega (arith, counted (d .before) .cells .ensures .0, cells-held _ _ _ (d .loop .inv .0 .sound), renewed c .renew .kept .0)
 
 accept-requires : tie.Need-accept-requires Inv-loop μ-loop
 accept-requires c κs =
     let d = stepped (c .before) in
     let i = d .before .loop .inv .0 in
-    omega (arith, i .counted, few-steps _ _ _ (i .passes), d .loop-test .taken)
+    omega (arith, i .counted, few-steps _ _ _ (i .sound), d .loop-test .taken)
 
 add-done : tie.Need-add-done Inv-loop μ-loop
 add-done c =
     let i = stepped (c .before .before) .before .loop .inv .0 in
-    omega (arith, i .most, few-steps _ _ _ (i .passes))
+    omega (arith, i .most, few-steps _ _ _ (i .sound))
 
 loop-less : tie.Need-loop-less Inv-loop μ-loop
 loop-less c = search needs

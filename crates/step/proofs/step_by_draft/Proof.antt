@@ -1,6 +1,6 @@
 use mathlib.Core.Path.{sym}
 use borrow.Author.Needs.{needs}
-use Rattle.step.proofs.Drafts.{tide-part, draft-part, state-room, ready, front, answered}
+use Rattle.step.proofs.Drafts.{tide-part, draft-part, state-room, step-room, front, answered}
 use Rattle.step.proofs.step_by_draft.Statement.{statement}
 use Rattle.step.proofs.step_by_draft.Tie as tie
 
@@ -17,7 +17,7 @@ slice-aggregate-advance-2 : tie.Need-slice-aggregate-advance-2
 slice-aggregate-advance-2 c = sym (draft-part (c .before .before .pre))
 
 advance-requires : tie.Need-advance-requires
-advance-requires c κs = ready (c .before .before .pre)
+advance-requires c κs = step-room (c .before .before .pre)
 
 renew-requires : tie.Need-renew-requires
 renew-requires c κs = search (needs, state-room)

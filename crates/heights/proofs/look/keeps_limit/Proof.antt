@@ -13,7 +13,7 @@ use Rattle.laws.specs.Signed.{small-is, small-within}
 use Rattle.face.specs.Ranges.{InLimit}
 use Rattle.heights.specs.declared.cells.Cell.{Cell}
 use Rattle.heights.specs.Cells.{cellAt}
-use Rattle.heights.specs.Known.{Sound}
+use Rattle.heights.specs.Known.{SoundState}
 use Rattle.heights.specs.Ways.{side, speeds}
 use Rattle.heights.proofs.Sites.{facts, speed-fits, time, side-fits}
 use Rattle.heights.proofs.look.keeps_limit.Statement.{statement}
@@ -23,7 +23,7 @@ abbrev word : ℤ → ℤ
 word z = toZ w32 (ofZ w32 z)
 
 -- the velocities of the cell that was read are in their range, and the limit over them is the cell's
-module _ {c : Card} {s : List ℤ} (i j : ℕ) (cell : Cell) (sound : Sound c s) (is : cell ≡ cellAt c s s i j) where
+module _ {c : Card} {s : List ℤ} (i j : ℕ) (cell : Cell) (sound : SoundState c s) (is : cell ≡ cellAt c s s i j) where
   in-limit : InLimit (word (cell .west)) (word (cell .east)) (word (cell .south)) (word (cell .north)) (c .dt) (c .dx) (c .dy)
   unfolding side speeds cellAt
   in-limit =

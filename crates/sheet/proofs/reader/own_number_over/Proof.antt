@@ -1,11 +1,12 @@
 -- `own_number_over`: the lists have the lengths that the header asks for.
 use mathlib.Core.Path.{_≡_, sym, ap, _∙_}
 use mathlib.Core.Bool.{true}
+use native.Mathlib.Omega.{arith}
 use borrow.Author.Tests.{not-true, not-false}
 use Rattle.rules.specs.Site.{cardFits}
 use Rattle.rules.specs.Sheet.{headFits}
 use Rattle.laws.specs.Sheets.{head-facts}
-use Rattle.sheet.proofs.Reading.{front-9, front-1, front-told}
+use Rattle.sheet.proofs.Reading.{front-9, front-1, front-told, front-refused, front-facts, few}
 use borrow.Author.Needs.{needs}
 use Rattle.sheet.proofs.reader.own_number_over.Statement.{statement}
 use Rattle.sheet.proofs.reader.own_number_over.Tie as tie
@@ -40,16 +41,30 @@ cells-requires c κs = carded c
 state-length-requires : tie.Need-state-length-requires
 state-length-requires c κs = carded (c .before)
 
+front-number-requires : tie.Need-front-number-requires
+front-number-requires c κs = search needs
+
+returns-3 : tie.Need-returns-3
+returns-3 c =
+    let f = c .before in
+    let n = f .before in
+    let k = n .before .before .before .before in
+    let e = f .front-number .ensures ∙ front-refused _ _ _ (λ z. c .if3 .taken (f .front-number .ensures ∙ z)) in
+    cc (e, n .state-length .ensures .0, n .before .cells .ensures .0, k .card-in .ensures)
+
 look-requires : tie.Need-look-requires
-look-requires c κs = search needs
+look-requires c κs =
+    let zero = sym (c .before .before .front-number .ensures) ∙ c .before .if3 .left in
+    let room = few _ _ _ (front-facts _ _ _ zero) in
+    record { front = zero; room = omega (arith, c .before .before .before .before .before .before .before .before .before .before .before .pre) }
 
 same-length : tie.Need-same-length
 same-length c = search needs
 
-returns-3 : tie.Need-returns-3
-returns-3 c =
+returns-4 : tie.Need-returns-4
+returns-4 c =
     let w = c .before in
-    let n = w .before .before in
+    let n = w .before .before .before .before in
     let k = n .before .before .before .before in
     cc (w .look .ensures .0, n .state-length .ensures .0, n .before .cells .ensures .0, k .card-in .ensures)
 
@@ -64,6 +79,8 @@ own-number-over-spec =
     returns-2
     cells-requires
     state-length-requires
+    front-number-requires
+    returns-3
     look-requires
     same-length
-    returns-3)
+    returns-4)

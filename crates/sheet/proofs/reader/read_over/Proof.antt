@@ -7,7 +7,7 @@ use lib.ListN.{length, take, drop}
 use lib.Seq.{length-take-le}
 use Rattle.rules.specs.Sheet.{groundIn, stateIn, readNumber}
 use Rattle.laws.specs.Sheets.{read-facts, length-ground-in}
-use Rattle.sheet.proofs.Reading.{read-few, first-part, second-part, refused, accepted}
+use Rattle.sheet.proofs.Reading.{first-part, second-part, refused, accepted}
 use borrow.Author.Needs.{needs}
 use Rattle.sheet.proofs.reader.read_over.Statement.{statement}
 use Rattle.sheet.proofs.reader.read_over.Tie as tie
@@ -20,8 +20,7 @@ zero e = sym (e .before .before .look .ensures .0) ∙ e .if1 .left
 room : (e : tie.Else1)
     → length (e .before .before .before .before .before .args .ground .now) + length (e .before .before .before .before .before .args .state .now) ≤ length (e .before .before .look .last .1 .1 .1 .0)
 room e =
-    let a = e .before .before .before .before .before in
-    let f = a .pre .room (read-few (a .args .sheet .now) (length (a .args .ground .now)) (length (a .args .state .now)) (zero e)) in
+    let f = e .before .before .before .before .before .pre .room in
     let k = e .before .before .look .kept .1 .1 .1 .0 in
     omega arith
 
