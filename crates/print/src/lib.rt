@@ -22,7 +22,8 @@ fn append(text: &[u8], out: &mut [u8], at: usize) -> usize
 
 fn append_decimal(n: u32, out: &mut [u8], at: usize) -> usize
     requires { ⌜ at + 10 ≤ length (now out) ⌝ }
-    ensures { λ r. ⌜ Appended (decimal n) at r (now (out .entry)) (now (out .exit)) ⌝ }
+    ensures text { λ r. ⌜ Appended (decimal n) at r (now (out .entry)) (now (out .exit)) ⌝ }
+    ensures end { λ r. ⌜ r ≤ at + 10 ⌝ }
 {
     let k = text::put_decimal(n, &mut out[at..]);
     at + k
@@ -30,7 +31,8 @@ fn append_decimal(n: u32, out: &mut [u8], at: usize) -> usize
 
 fn append_depth(height: i32, out: &mut [u8], at: usize) -> usize
     requires { ⌜ at + 7 ≤ length (now out) ⌝ }
-    ensures { λ r. ⌜ Appended (depthText height) at r (now (out .entry)) (now (out .exit)) ⌝ }
+    ensures text { λ r. ⌜ Appended (depthText height) at r (now (out .entry)) (now (out .exit)) ⌝ }
+    ensures end { λ r. ⌜ r ≤ at + 7 ⌝ }
 {
     let k = text::write_text(height, &mut out[at..]);
     at + k
@@ -39,7 +41,8 @@ fn append_depth(height: i32, out: &mut [u8], at: usize) -> usize
 // A word and a number.
 fn append_labelled(word: &[u8], n: u32, out: &mut [u8], at: usize) -> usize
     requires { ⌜ at + (length (now word) + 10) ≤ length (now out) ⌝ }
-    ensures { λ r. ⌜ Appended (labelled (now (word .entry)) n) at r (now (out .entry)) (now (out .exit)) ⌝ }
+    ensures text { λ r. ⌜ Appended (labelled (now (word .entry)) n) at r (now (out .entry)) (now (out .exit)) ⌝ }
+    ensures end { λ r. ⌜ r ≤ at + (length (now (word .entry)) + 10) ⌝ }
 {
     let end = append(word, out, at);
     append_decimal(n, out, end)
@@ -80,7 +83,8 @@ pub fn tally_line(tally: Tally, out: &mut [u8]) -> usize
 // A comma and a space before each text but the first.
 fn append_comma(i: usize, out: &mut [u8], at: usize) -> usize
     requires { ⌜ at + 2 ≤ length (now out) ⌝ }
-    ensures { λ r. ⌜ Appended (cond (eqb i 0) [] comma) at r (now (out .entry)) (now (out .exit)) ⌝ }
+    ensures text { λ r. ⌜ Appended (cond (eqb i 0) [] comma) at r (now (out .entry)) (now (out .exit)) ⌝ }
+    ensures end { λ r. ⌜ r ≤ at + 2 ⌝ }
 {
     if i == 0 {
         return at;
@@ -88,19 +92,28 @@ fn append_comma(i: usize, out: &mut [u8], at: usize) -> usize
     append(b", ", out, at)
 }
 
+// A product of two numbers of at most 32.
+fn times(a: usize, b: usize) -> usize
+    requires { ⌜ (a ≤ 32) × (b ≤ 32) ⌝ }
+    ensures { λ r. ⌜ (r ≡ a * b) × (r ≤ 1024) ⌝ }
+{
+    a * b
+}
+
 // Where the heights of row j begin: rows run south to north.
 fn row_start(card: Card, j: usize) -> usize
-    requires { ⌜ j * card .columns ≤ 1024 ⌝ }
-    ensures { λ r. ⌜ r ≡ j * card .columns ⌝ }
+    requires { ⌜ (j < card .rows) × ((card .rows ≤ 32) × (card .columns ≤ 32)) ⌝ }
+    ensures { λ r. ⌜ (r ≡ j * card .columns) × (r ≤ 1024) ⌝ }
 {
     let columns = card.columns as usize;
-    j * columns
+    times(j, columns)
 }
 
 // The depth text of a cell, joined to those before it.
 fn append_cell(card: Card, state: &[i32], i: usize, j: usize, out: &mut [u8], at: usize) -> usize
     requires { ⌜ Cell card (now state) i j (at + 9) (length (now out)) ⌝ }
-    ensures { λ r. ⌜ Appended (cellText card (now (state .entry)) i j) at r (now (out .entry)) (now (out .exit)) ⌝ }
+    ensures text { λ r. ⌜ Appended (cellText card (now (state .entry)) i j) at r (now (out .entry)) (now (out .exit)) ⌝ }
+    ensures end { λ r. ⌜ r ≤ at + 9 ⌝ }
 {
     let start = row_start(card, j);
     let height = state[start + i];
@@ -111,7 +124,8 @@ fn append_cell(card: Card, state: &[i32], i: usize, j: usize, out: &mut [u8], at
 // The depth texts of row j.
 fn row_texts(card: Card, state: &[i32], j: usize, out: &mut [u8], at: usize) -> usize
     requires { ⌜ Row card (now state) j (at + 9 * card .columns) (length (now out)) ⌝ }
-    ensures { λ r. ⌜ Appended (rowTexts card (now (state .entry)) j (card .columns)) at r (now (out .entry)) (now (out .exit)) ⌝ }
+    ensures text { λ r. ⌜ Appended (rowTexts card (now (state .entry)) j (card .columns)) at r (now (out .entry)) (now (out .exit)) ⌝ }
+    ensures end { λ r. ⌜ r ≤ at + 9 * card .columns ⌝ }
 {
     let columns = card.columns as usize;
     let mut i = 0;
@@ -126,7 +140,8 @@ fn row_texts(card: Card, state: &[i32], j: usize, out: &mut [u8], at: usize) -> 
 // The line of row j.
 fn row_line(card: Card, state: &[i32], j: usize, out: &mut [u8], at: usize) -> usize
     requires { ⌜ Row card (now state) j (at + 289) (length (now out)) ⌝ }
-    ensures { λ r. ⌜ Appended (rowTexts card (now (state .entry)) j (card .columns) ++ lineFeed) at r (now (out .entry)) (now (out .exit)) ⌝ }
+    ensures text { λ r. ⌜ Appended (rowTexts card (now (state .entry)) j (card .columns) ++ lineFeed) at r (now (out .entry)) (now (out .exit)) ⌝ }
+    ensures end { λ r. ⌜ r ≤ at + 289 ⌝ }
 {
     let end = row_texts(card, state, j, out, at);
     append(b"\n", out, end)

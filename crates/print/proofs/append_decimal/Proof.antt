@@ -32,7 +32,8 @@ returns c =
     let s = c .before .before .before .before .before in
     let small = s .fits .n .fits in let short = length-decimal 9 10 (s .args .n) (omega arith) (omega arith) in
     let long = s .pre in
-    put-appended (c .before .before .put-decimal .ensures) (omega arith)
+    let p = put-appended {at = s .args .at} {old = s .args .out .now} (c .before .before .put-decimal .ensures) (omega arith) in
+    (p, omega (arith, p .stop))
 
 pub append-decimal-spec : {M : Type 1} → statement M
 append-decimal-spec =

@@ -33,7 +33,8 @@ returns c =
     let s = c .before .before .before .before .before in
     let short = length-depth (s .args .height) in
     let long = s .pre in
-    put-appended (put-same (signed-same (s .args .height) (s .fits .height)) (told-put _ (c .before .before .write-text .ensures))) (omega arith)
+    let p = put-appended {at = s .args .at} {old = s .args .out .now} (put-same (signed-same (s .args .height) (s .fits .height)) (told-put _ (c .before .before .write-text .ensures))) (omega arith) in
+    (p, omega (arith, p .stop))
 
 pub append-depth-spec : {M : Type 1} → statement M
 append-depth-spec =

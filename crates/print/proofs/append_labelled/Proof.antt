@@ -19,9 +19,10 @@ unfolding labelled
 returns c =
     let s = c .before .before .before .before .before .before .before .before .before .before in
     let p = c .before .before .before .before .before .before .append .ensures in
+    let q = c .before .before .append-decimal .ensures in
     let a = p .stop in
     let long = s .pre in
-    appended-more p (c .before .before .append-decimal .ensures) (omega arith)
+    (appended-more p (q .0) (omega arith), omega (arith, q .1))
 
 pub append-labelled-spec : {M : Type 1} → statement M
 append-labelled-spec =

@@ -1,7 +1,5 @@
-use native.Mathlib.Omega.{arith}
-use Rattle.rules.specs.Play.{refusedWord, refusedLine}
+use Rattle.rules.specs.Play.{refusedLine}
 use Rattle.print.proofs.Laws.{appended-more}
-use Rattle.print.proofs.Lengths.{labelled-ends}
 use borrow.Author.Needs.{needs}
 use Rattle.print.proofs.refused_line.Statement.{statement}
 use Rattle.print.proofs.refused_line.Tie as tie
@@ -16,9 +14,7 @@ slice-aggregate-append : tie.Need-slice-aggregate-append
 slice-aggregate-append c = search needs
 
 append-requires : tie.Need-append-requires
-append-requires c κs =
-    let s = c .before .before .before .before .before .before .before .before in
-    omega (arith, s .pre, labelled-ends refusedWord (s .args .number) (s .fits .number .fits) (c .before .before .before .before .append-labelled .ensures))
+append-requires c κs = search needs
 
 same-length : tie.Need-same-length
 same-length c = search needs
@@ -26,9 +22,8 @@ same-length c = search needs
 returns : tie.Need-returns
 unfolding refusedLine
 returns c =
-    let s = c .before .before .before .before .before .before .before .before .before .before .before in
     let p = c .before .before .before .before .before .before .before .append-labelled .ensures in
-    appended-more p (c .before .before .append .ensures) (omega (arith, s .pre, labelled-ends refusedWord (s .args .number) (s .fits .number .fits) p))
+    appended-more (p .0) (c .before .before .append .ensures) (search needs)
 
 pub refused-line-spec : {M : Type 1} → statement M
 refused-line-spec =

@@ -1,6 +1,5 @@
 use native.Mathlib.Omega.{arith}
 use Rattle.print.proofs.Laws.{appended-more}
-use Rattle.print.proofs.Lengths.{texts-end}
 use borrow.Author.Needs.{needs}
 use Rattle.print.proofs.row_line.Statement.{statement}
 use Rattle.print.proofs.row_line.Tie as tie
@@ -12,10 +11,7 @@ slice-aggregate-append : tie.Need-slice-aggregate-append
 slice-aggregate-append c = search needs
 
 append-requires : tie.Need-append-requires
-append-requires c κs =
-    let s = c .before .before .before .before .before .before .before in
-    let narrow = s .pre .rows .narrow in
-    omega (arith, s .pre .rows .space, texts-end (s .args .card) (s .args .state .now) (s .args .j) (s .args .card .columns) (c .before .before .before .before .row-texts .ensures))
+append-requires c κs = search needs
 
 same-length : tie.Need-same-length
 same-length c = search needs
@@ -24,9 +20,10 @@ returns : tie.Need-returns
 returns c =
     let s = c .before .before .before .before .before .before .before .before .before .before in
     let p = c .before .before .before .before .before .before .before .row-texts .ensures in
+    let q = c .before .before .append .ensures in
     let narrow = s .pre .rows .narrow in
-    appended-more p (c .before .before .append .ensures)
-    (omega (arith, s .pre .rows .space, texts-end (s .args .card) (s .args .state .now) (s .args .j) (s .args .card .columns) p))
+    let space = s .pre .rows .space in
+    (appended-more (p .0) q (omega (arith, p .1)), omega (arith, p .1, q .stop))
 
 pub row-line-spec : {M : Type 1} → statement M
 row-line-spec =

@@ -3,13 +3,12 @@ use Prim.Native.Nat.{_-_}
 use native.Mathlib.Omega.{arith}
 use borrow.Author.Needs.{needs}
 use Rattle.rules.specs.Play.{rowLines}
-use Rattle.print.proofs.Lengths.{length-line, lines-end}
 use Rattle.print.proofs.Loops.{Printing, printing-none, printing-more, printed-all}
 use Rattle.print.proofs.row_lines.Statement.{statement}
 use Rattle.print.proofs.row_lines.Tie as tie
 
 abbrev Inv-loop : tie.InvT-loop
-Inv-loop card state out₀ at rows j₀ end₀ out j end = Printing (rowLines card state) rows at out₀ j end out
+Inv-loop card state out₀ at rows j₀ end₀ out j end = Printing (rowLines card state) 289 rows at out₀ j end out
 
 abbrev μ-loop : tie.MeasureT-loop
 μ-loop card state out₀ at rows j₀ end₀ out j end = rows - j
@@ -25,7 +24,7 @@ row-line-requires : tie.Need-row-line-requires Inv-loop μ-loop
 row-line-requires c κs =
     let s = c .before .before .before .before .before in
     let p = c .before .before .loop .inv in
-    let far = lines-end (s .args .card) (s .args .state .now) (s .pre .narrow) (c .before .before .loop .j) (p .put) in
+    let far = p .far in
     let long = p .long in
     let test = c .before .loop-test .taken in
     let short = s .pre .short in
@@ -45,20 +44,16 @@ loop-again : tie.Need-loop-again Inv-loop μ-loop
 unfolding rowLines
 loop-again c =
     let s = c .before .before .before .before .before .before .before .before in
-    let p = c .before .before .before .before .before .loop .inv in
     let q = c .before .before .row-line .ensures in
-    let test = c .before .before .before .before .loop-test .taken in
-    let far = lines-end (s .args .card) (s .args .state .now) (s .pre .narrow) (c .before .before .before .before .before .loop .j) (p .put) in
-    let line = length-line (s .args .card) (s .args .state .now) (s .pre .narrow) (c .before .before .before .before .before .loop .j) in
     let short = s .pre .short in
     let space = s .pre .space in
-    printing-more p test refl q (omega (arith, q .stop))
+    printing-more (c .before .before .before .before .before .loop .inv) (c .before .before .before .before .loop-test .taken) (omega arith) refl (q .0) (q .1)
 
 same-length : tie.Need-same-length Inv-loop μ-loop
 same-length c = search needs
 
 returns : tie.Need-returns Inv-loop μ-loop
-returns c = printed-all (c .before .loop .inv) (c .loop-test .left)
+returns c = printed-all (c .before .loop .inv) (c .loop-test .left) .0
 
 pub row-lines-spec : {M : Type 1} → statement M
 row-lines-spec =

@@ -3,13 +3,12 @@ use Prim.Native.Nat.{_-_}
 use native.Mathlib.Omega.{arith}
 use borrow.Author.Needs.{needs}
 use Rattle.rules.specs.Play.{rowTexts}
-use Rattle.print.proofs.Lengths.{length-cell, texts-end}
 use Rattle.print.proofs.Loops.{Printing, printing-none, printing-more, printed-all}
 use Rattle.print.proofs.row_texts.Statement.{statement}
 use Rattle.print.proofs.row_texts.Tie as tie
 
 abbrev Inv-loop : tie.InvT-loop
-Inv-loop card state j out₀ at columns i₀ end₀ out i end = Printing (rowTexts card state j) columns at out₀ i end out
+Inv-loop card state j out₀ at columns i₀ end₀ out i end = Printing (rowTexts card state j) 9 columns at out₀ i end out
 
 abbrev μ-loop : tie.MeasureT-loop
 μ-loop card state j out₀ at columns i₀ end₀ out i end = columns - i
@@ -25,7 +24,7 @@ append-cell-requires : tie.Need-append-cell-requires Inv-loop μ-loop
 append-cell-requires c κs =
     let s = c .before .before .before .before .before in
     let p = c .before .before .loop .inv in
-    let far = texts-end (s .args .card) (s .args .state .now) (s .args .j) (c .before .before .loop .i) (p .put) in
+    let far = p .far in
     let long = p .long in
     let test = c .before .loop-test .taken in
     let space = s .pre .rows .space in
@@ -45,13 +44,8 @@ loop-again : tie.Need-loop-again Inv-loop μ-loop
 unfolding rowTexts
 loop-again c =
     let s = c .before .before .before .before .before .before .before .before in
-    let p = c .before .before .before .before .before .loop .inv in
     let q = c .before .before .append-cell .ensures in
-    let test = c .before .before .before .before .loop-test .taken in
-    let far = texts-end (s .args .card) (s .args .state .now) (s .args .j) (c .before .before .before .before .before .loop .i) (p .put) in
-    let short = length-cell (s .args .card) (s .args .state .now) (c .before .before .before .before .before .loop .i) (s .args .j) in
-    let space = s .pre .rows .space in
-    printing-more p test refl q (omega (arith, q .stop))
+    printing-more (c .before .before .before .before .before .loop .inv) (c .before .before .before .before .loop-test .taken) (s .pre .rows .space) refl (q .0) (q .1)
 
 same-length : tie.Need-same-length Inv-loop μ-loop
 same-length c = search needs
