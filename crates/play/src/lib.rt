@@ -5,11 +5,8 @@ ghost use lib.ListN.{length};
 ghost use Rattle.rules.specs.Calls.{runOutcome};
 ghost use Rattle.rules.specs.Play.{playNumber, playedText, played, printed};
 ghost use Rattle.text.specs.Put.{Put};
-ghost use Rattle.play.specs.Appended.{Appended, Rows};
+ghost use Rattle.print.specs.Appended.{Appended, Rows};
 ghost use Rattle.play.specs.Lent.{Cut, Uncut};
-
-mod print;
-
 use rules::Card;
 
 // The number that an input is refused with, and 0 where it is a sheet to be run.

@@ -9,6 +9,9 @@ use rules::Tally;
 use rules::Window;
 use rules::Wrote;
 
+// The depth text for callers in Rattle: the part that was written is handed back. Across C its length is what can be handed over, as water_depth_text does.
+pub use text::depth_text;
+
 // One step: its number, and the next state. Refused: the next state as lent.
 #[no_mangle]
 pub extern "C" fn water_step(card: Card, ground: &[i32], state: &[i32], next: &mut [i32]) -> u32
@@ -96,7 +99,7 @@ pub extern "C" fn water_write_sheet(
 }
 
 // The depth text of a height at the front of the scratch, and its length; 0 and the scratch as lent where the height is out of range or the scratch is
-// shorter than the text. In Rattle, text::depth_text hands back the written part; across C its length is what can be handed over.
+// shorter than the text.
 #[no_mangle]
 pub extern "C" fn water_depth_text(height: i32, scratch: &mut [u8]) -> usize
     ensures { λ r. ⌜ TextContract height (now (scratch .entry)) r (now (scratch .exit)) ⌝ }

@@ -1,6 +1,6 @@
 use native.Mathlib.Omega.{arith}
 use Rattle.text.proofs.Laws.{put-same}
-use Rattle.play.proofs.Laws.{front-part, front-within, front-length}
+use Rattle.print.proofs.Laws.{front-part, front-within, front-length}
 use borrow.Author.Needs.{needs}
 use Rattle.play.proofs.play.Statement.{statement}
 use Rattle.play.proofs.play.Tie as tie

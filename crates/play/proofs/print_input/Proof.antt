@@ -1,6 +1,6 @@
 use mathlib.Core.Path.{sym, ap, _∙_}
 use Rattle.rules.specs.Play.{refusedLine}
-use Rattle.play.proofs.Laws.{appended-same}
+use Rattle.print.proofs.Laws.{appended-same}
 use Rattle.play.proofs.Numbers.{printed-refused, printed-played}
 use borrow.Author.Needs.{needs}
 use Rattle.play.proofs.print_input.Statement.{statement}

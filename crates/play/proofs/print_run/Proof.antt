@@ -4,7 +4,7 @@ use native.Mathlib.Omega.{arith}
 use lib.IntN.{ℤ}
 use Rattle.rules.specs.Calls.{runTally, runState}
 use Rattle.rules.specs.Play.{tallyLine, rowLines, playedText}
-use Rattle.play.proofs.Laws.{appended-more, appended-same}
+use Rattle.print.proofs.Laws.{appended-more, appended-same}
 use borrow.Author.Needs.{needs}
 use Rattle.play.proofs.print_run.Statement.{statement}
 use Rattle.play.proofs.print_run.Tie as tie

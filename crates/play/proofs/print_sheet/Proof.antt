@@ -3,7 +3,7 @@ use native.Mathlib.Omega.{arith}
 use Rattle.rules.specs.declared.Heard.{Heard}
 use Rattle.rules.specs.Site.{stateLength}
 use Rattle.rules.specs.Sheet.{cardIn}
-use Rattle.play.proofs.Laws.{appended-same}
+use Rattle.print.proofs.Laws.{appended-same}
 use Rattle.play.proofs.Numbers.{narrow, short, card-read, ground-read, state-read, played-run}
 use borrow.Author.Needs.{needs}
 use Rattle.play.proofs.print_sheet.Statement.{statement}

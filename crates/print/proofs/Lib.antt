@@ -1,0 +1,4 @@
+pub mod Laws
+pub mod Lengths
+pub mod Loops
+pub mod Sizes
