@@ -11,6 +11,20 @@
  *
  * Lists: rows run south to north, and within a row west to east. Ground is columns*rows words. A state is columns*rows heights,
  * then (columns+1)*rows eastward velocities, then columns*(rows+1) northward velocities. Micrometres and micrometres a second.
+ *
+ * Stack that a call takes, in bytes, where the archive is rt's for x86-64 (a thread takes some for itself besides):
+ *
+ *                          any input   small site   refused
+ *     water_step             397,000       27,000     1,000
+ *     water_run              200,000       15,000     1,000
+ *     water_search            38,000       38,000    38,000
+ *     water_search_lists       6,000        6,000     6,000
+ *     water_read_sheet       265,000       18,000     1,000
+ *     water_write_sheet        1,000        1,000     1,000
+ *     water_depth_text         1,000        1,000     1,000
+ *
+ * Small is a site whose state has at most 3,136 words, as with 32 columns and 32 rows. Refused means with 1, 2 or 3, and by the
+ * sheet reader with 9, 1 or 2: its 3, like the 4 to 7 of a step or a run, takes what the site takes.
  */
 #ifndef WATER_H
 #define WATER_H

@@ -4,6 +4,26 @@
 //! [`raw`] is what C sees. All state is whole numbers: micrometres, micrometres a second, milliseconds. Rows run south to north,
 //! and within a row west to east.
 //!
+//! # Stack
+//!
+//! What a call takes, in bytes, where the archive is `rt`'s for x86-64 (a thread takes some for itself besides):
+//!
+//! | call | any input | small site | refused |
+//! |---|---|---|---|
+//! | [`calls::step`] | 397,000 | 27,000 | 1,000 |
+//! | [`calls::run`] | 200,000 | 15,000 | 1,000 |
+//! | [`calls::search`] | 38,000 | 38,000 | 38,000 |
+//! | [`calls::search_lists`] | 6,000 | 6,000 | 6,000 |
+//! | [`calls::read_sheet`] | 265,000 | 18,000 | 1,000 |
+//! | [`calls::write_sheet`] | 1,000 | 1,000 | 1,000 |
+//! | [`calls::depth_text`] | 1,000 | 1,000 | 1,000 |
+//!
+//! Small is a site whose state has at most 3,136 words, as with 32 columns and 32 rows. Refused means with `Card`, `Length` or `Value`,
+//! and by the sheet reader with `Sheet`, `Card` or `Length`: its `Value`, like the later refusals of a step or a run, takes what the site
+//! takes. A [`Site`] takes as much as the calls that it makes.
+//!
+//! # The archive
+//!
 //! The archive is made by `rt staticlib water` at the repository's root, and found by this package's build script.
 
 pub mod calls;

@@ -1,0 +1,99 @@
+//! The calls and the sites whose stack is looked at. Each call has its lists made beforehand, so that it alone is on the stack.
+
+use crate::wild::Wild;
+use water::raw::{Card, Chamber, Window};
+use water::{calls, Refusal};
+
+pub type Call = Box<dyn FnMut() -> Result<(), Refusal> + Send>;
+
+/// A site of so many columns and rows, with water that starts to move.
+pub fn site(side: u32) -> Wild {
+    let mut site = Wild::empty(Card { columns: side, rows: side, dx: 1_000_000, dy: 1_000_000, dt: 20, steps: 3 });
+    let cells = site.ground.len();
+    for (k, height) in site.state[..cells].iter_mut().enumerate() {
+        *height = 1_000_000 + k as i32;
+    }
+    site
+}
+
+/// One that breaks the step limit: refusal 4.
+pub fn too_fast(side: u32) -> Wild {
+    let mut site = site(side);
+    site.card.dt = 1_000;
+    let face = site.east(1, 0);
+    site.state[face] = 20_000_000;
+    site
+}
+
+/// One whose last wall is not still: refusal 3.
+pub fn bad(side: u32) -> Wild {
+    let mut site = site(side);
+    *site.state.last_mut().unwrap() = 1;
+    site
+}
+
+/// One whose ground is a word too short: refusal 2.
+pub fn short(side: u32) -> Wild {
+    let mut site = site(side);
+    site.ground.pop();
+    site
+}
+
+/// An empty card and no lists.
+pub fn nothing() -> Wild {
+    Wild { card: Card::default(), ground: vec![], state: vec![] }
+}
+
+pub fn step(site: Wild) -> Call {
+    let mut next = vec![0; site.state.len()];
+    Box::new(move || calls::step(site.card, &site.ground, &site.state, &mut next))
+}
+
+pub fn run(mut site: Wild) -> Call {
+    let mut scratch = vec![0; site.state.len()];
+    Box::new(move || {
+        let tally = calls::run(site.card, &site.ground, &mut site.state, &mut scratch);
+        tally.reason.map_or(Ok(()), Err)
+    })
+}
+
+const EVERYWHERE: Window = Window { west: 0.0, south: 0.0, east: 128e6, north: 128e6 };
+
+fn register(count: i64) -> Vec<Chamber> {
+    (0..count).map(|k| Chamber { x: 8_000 * k, y: 7_000 * k }).collect()
+}
+
+pub fn search(site: Wild, count: i64) -> Call {
+    let chambers = register(count);
+    let mut found = vec![0; chambers.len()];
+    Box::new(move || calls::search(site.card, &site.ground, &site.state, &chambers, EVERYWHERE, 0, &mut found).map(drop))
+}
+
+pub fn search_lists(site: Wild, count: i64) -> Call {
+    let (xs, ys): (Vec<i64>, Vec<i64>) = register(count).iter().map(|chamber| (chamber.x, chamber.y)).unzip();
+    let mut found = vec![0; xs.len()];
+    Box::new(move || calls::search_lists(site.card, &site.ground, &site.state, &xs, &ys, EVERYWHERE, 0, &mut found).map(drop))
+}
+
+/// The reader, on the sheet of the site as it would be with a ground of the right length.
+pub fn read(mut site: Wild) -> Call {
+    let words = std::iter::repeat(&0).take(site.card.cells() - site.ground.len()).chain(&site.ground).chain(&site.state);
+    let mut sheet = vec![0; site.card.sheet_size()];
+    let still = self::site(site.card.columns);
+    if calls::write_sheet(still.card, &still.ground, &still.state, &mut sheet).is_ok() {
+        let words: Vec<u8> = words.flat_map(|word| word.to_be_bytes()).collect();
+        sheet[19..].copy_from_slice(&words);
+    }
+    Box::new(move || calls::read_sheet(&sheet, &mut site.ground, &mut site.state).map(drop))
+}
+
+pub fn write(site: Wild) -> Call {
+    let mut bytes = vec![0; site.card.sheet_size()];
+    Box::new(move || calls::write_sheet(site.card, &site.ground, &site.state, &mut bytes).map(drop))
+}
+
+/// The depth text; none of a height counts as the bad value that it is.
+pub fn text(height: i32) -> Call {
+    let mut scratch = [0; 7];
+    Box::new(move || calls::depth_text(height, &mut scratch).map(drop).ok_or(Refusal::Value))
+}

@@ -1,0 +1,125 @@
+//! How much stack each call takes: what `include/water.h` names and no more, whatever the input, on a small site, and where it is refused.
+//!
+//! The numbers stand in the header's table alone; the page of the package must have the same. Each case is run twice: on a painted
+//! stack, which shows how deep it went, and in a thread that has as much stack as is named and what a thread takes for itself.
+//! `cargo test --release stack -- --nocapture` prints what each case took.
+
+mod cases;
+#[cfg(target_arch = "x86_64")]
+mod painted;
+
+use cases::Call;
+use std::thread;
+use water::Refusal;
+
+/// What a thread has beside: the least that Linux gives one, which holds what Rust does before and after the call.
+const THREAD: usize = 16_384;
+
+#[derive(Clone, Copy, Debug, PartialEq)]
+struct Named {
+    any: usize,
+    small: usize,
+    refused: usize,
+}
+
+// The three numbers in the one line of a page that begins with this name.
+fn named(page: &str, name: &str) -> Named {
+    let is_row =
+        |line: &&str| line.trim_start_matches(|c| " */!|[`".contains(c)).split(|c| " `".contains(c)).next() == Some(name);
+    let numbers =
+        |line: &str| -> Vec<usize> { line.split([' ', '|']).filter_map(|word| word.replace(',', "").parse().ok()).collect() };
+    let rows: Vec<Vec<usize>> = page.lines().filter(is_row).map(numbers).filter(|row| row.len() == 3).collect();
+    assert_eq!(rows.len(), 1, "{name} has one row in the table of stack");
+    Named { any: rows[0][0], small: rows[0][1], refused: rows[0][2] }
+}
+
+fn header(name: &str) -> Named {
+    named(include_str!("../../../../include/water.h"), name)
+}
+
+// One case: what it takes is printed and held to what is named, and it answers so, on its own stack and in a thread.
+fn holds(case: &str, named: usize, answer: Result<(), Refusal>, make: impl Fn() -> Call) {
+    #[cfg(target_arch = "x86_64")]
+    {
+        let (answered, took) = painted::depth(&mut *make());
+        println!("{case}: {took} bytes of stack, {named} are named");
+        assert_eq!(answered, answer, "{case}");
+        assert!(took <= named, "{case} takes {took} bytes of stack, and include/water.h names {named}");
+    }
+    let mut call = make();
+    let thread = thread::Builder::new().stack_size(named + THREAD).spawn(move || call()).unwrap();
+    assert_eq!(thread.join().unwrap(), answer, "{case}");
+}
+
+#[test]
+fn step_takes_what_is_named() {
+    let named = header("water_step");
+    holds("step, 128×128", named.any, Ok(()), || cases::step(cases::site(128)));
+    holds("step, 128×128, refused with 4", named.any, Err(Refusal::StepLimit), || cases::step(cases::too_fast(128)));
+    holds("step, 32×32", named.small, Ok(()), || cases::step(cases::site(32)));
+    holds("step, 8×8", named.small, Ok(()), || cases::step(cases::site(8)));
+    holds("step, an empty card", named.refused, Err(Refusal::Card), || cases::step(cases::nothing()));
+    holds("step, lists too short", named.refused, Err(Refusal::Length), || cases::step(cases::short(128)));
+    holds("step, a bad value", named.refused, Err(Refusal::Value), || cases::step(cases::bad(128)));
+}
+
+#[test]
+fn run_takes_what_is_named() {
+    let named = header("water_run");
+    holds("run, 128×128", named.any, Ok(()), || cases::run(cases::site(128)));
+    holds("run, 128×128, stopped by 4", named.any, Err(Refusal::StepLimit), || cases::run(cases::too_fast(128)));
+    holds("run, 32×32", named.small, Ok(()), || cases::run(cases::site(32)));
+    holds("run, 8×8", named.small, Ok(()), || cases::run(cases::site(8)));
+    holds("run, an empty card", named.refused, Err(Refusal::Card), || cases::run(cases::nothing()));
+    holds("run, lists too short", named.refused, Err(Refusal::Length), || cases::run(cases::short(128)));
+    holds("run, a bad value", named.refused, Err(Refusal::Value), || cases::run(cases::bad(128)));
+}
+
+#[test]
+fn read_sheet_takes_what_is_named() {
+    let named = header("water_read_sheet");
+    holds("read, 128×128", named.any, Ok(()), || cases::read(cases::site(128)));
+    holds("read, 128×128, a bad value", named.any, Err(Refusal::Value), || cases::read(cases::bad(128)));
+    holds("read, 32×32", named.small, Ok(()), || cases::read(cases::site(32)));
+    holds("read, 8×8", named.small, Ok(()), || cases::read(cases::site(8)));
+    holds("read, 32×32, a bad value", named.small, Err(Refusal::Value), || cases::read(cases::bad(32)));
+    holds("read, no bytes and no lists", named.refused, Err(Refusal::Sheet), || cases::read(cases::nothing()));
+    holds("read, lists too short", named.refused, Err(Refusal::Length), || cases::read(cases::short(128)));
+}
+
+#[test]
+fn searches_take_what_is_named() {
+    for (name, search) in [("water_search", cases::search as fn(_, _) -> Call), ("water_search_lists", cases::search_lists)] {
+        let named = header(name);
+        holds(name, named.any, Ok(()), || search(cases::site(128), 1_000));
+        holds(name, named.small, Ok(()), || search(cases::site(8), 1_000));
+        holds(name, named.refused, Err(Refusal::Card), || search(cases::nothing(), 0));
+        holds(name, named.refused, Err(Refusal::Length), || search(cases::site(8), 1_001));
+    }
+}
+
+#[test]
+fn write_sheet_takes_what_is_named() {
+    let named = header("water_write_sheet");
+    holds("write, 128×128", named.any, Ok(()), || cases::write(cases::site(128)));
+    holds("write, 8×8", named.small, Ok(()), || cases::write(cases::site(8)));
+    holds("write, an empty card", named.refused, Err(Refusal::Card), || cases::write(cases::nothing()));
+    holds("write, a bad value", named.refused, Err(Refusal::Value), || cases::write(cases::bad(128)));
+}
+
+#[test]
+fn depth_text_takes_what_is_named() {
+    let named = header("water_depth_text");
+    holds("text, the longest", named.any, Ok(()), || cases::text(50_000_000));
+    holds("text, dry", named.small, Ok(()), || cases::text(0));
+    holds("text, below 0", named.refused, Err(Refusal::Value), || cases::text(-1));
+}
+
+/// The page of the package says the same.
+#[test]
+fn both_pages_name_the_same_stack() {
+    let page = include_str!("../../../src/lib.rs");
+    for call in ["step", "run", "search", "search_lists", "read_sheet", "write_sheet", "depth_text"] {
+        assert_eq!(named(page, &format!("calls::{call}")), header(&format!("water_{call}")), "{call}");
+    }
+}
