@@ -18,6 +18,11 @@ v c = cast (int (c .before .pre .speed) tt) tt
 abbrev all : tie.After-positive → Node w64
 all c = mul (enters c) (v c) tt
 
+-- what it returns; then that each operation fits
+returns : tie.Need-returns
+unfolding brought
+returns c = value (all c)
+
 sub-positive : tie.Need-sub-positive
 sub-positive c = fits (back c)
 
@@ -32,10 +37,6 @@ cast-result-2 c = fits (v c)
 
 mul-result : tie.Need-mul-result
 mul-result c = fits (all c)
-
-returns : tie.Need-returns
-unfolding brought
-returns c = value (all c)
 
 pub brought-spec : {M : Type 1} → statement M
 brought-spec =

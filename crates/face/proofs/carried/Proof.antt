@@ -48,6 +48,11 @@ entered c = add (along (second c)) (across c) tt
 abbrev all : tie.After-brought4 → Node w64
 all c = add (kept (first (second c))) (entered c) tt
 
+-- what it returns; then that each operation fits
+returns : tie.Need-returns
+unfolding carried
+returns c = value (all c)
+
 own-share-requires : tie.Need-own-share-requires
 own-share-requires c κs = c .before .pre
 
@@ -95,10 +100,6 @@ add-result c = fits (entered c)
 
 add-result-2 : tie.Need-add-result-2
 add-result-2 c = fits (all c)
-
-returns : tie.Need-returns
-unfolding carried
-returns c = value (all c)
 
 pub carried-spec : {M : Type 1} → statement M
 carried-spec =

@@ -41,6 +41,10 @@ along c = mul-le-mul (both-x c) (start c .pre .sideY .high)
 across : (c : tie.After-size4) → (c .before .size3 .result + c .size4 .result) * start (half c) .args .dx ≤ 40000000 * 20000000
 across c = mul-le-mul (both-y c) (start (half c) .pre .sideX .high)
 
+-- what it returns; then that each operation fits
+returns : tie.Need-returns
+returns c = cc (west (half c), east (half c), south c, north c)
+
 size-requires : tie.Need-size-requires
 size-requires c κs = within (int {w = w32} (c .pre .west) tt)
 
@@ -76,9 +80,6 @@ mul-result-2 c = omega (arith, mul-le-mul (start (half c) .pre .sideX .high) (st
 
 mul-result-3 : tie.Need-mul-result-3
 mul-result-3 c = omega (arith, mul-le-mul (start (half c) .pre .sideX .high) (start (half c) .pre .sideY .high))
-
-returns : tie.Need-returns
-returns c = cc (west (half c), east (half c), south c, north c)
 
 pub keeps-limit-spec : {M : Type 1} → statement M
 keeps-limit-spec =

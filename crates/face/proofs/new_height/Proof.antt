@@ -16,6 +16,10 @@ from-south c = add (to-east c) (int (c .pre .south) tt) tt
 abbrev to-north : tie.Start → Node w32
 to-north c = sub (from-south c) (int (c .pre .north) tt) tt
 
+-- what it returns; then that each operation fits
+returns : tie.Need-returns
+returns c = value (to-north c)
+
 add-result : tie.Need-add-result
 add-result c = fits (from-west c)
 
@@ -27,9 +31,6 @@ add-result-2 c = fits (from-south c)
 
 sub-result-2 : tie.Need-sub-result-2
 sub-result-2 c = fits (to-north c)
-
-returns : tie.Need-returns
-returns c = value (to-north c)
 
 pub new-height-spec : {M : Type 1} → statement M
 new-height-spec = tie.close (tie.spec add-result sub-result add-result-2 sub-result-2 returns)

@@ -35,6 +35,14 @@ new c =
     let r = start (test (c .before)) .pre in
     sub (shared (c .before)) (result (c .slope .ensures) (slope-within (r .face) (r .time) (r .side)) tt) tt
 
+-- what it returns; then that each operation fits
+returns : tie.Need-returns
+unfolding newVelocity
+returns c =
+    let f = start (c .before) .args .f in
+    let e : isZero (f .newK +ℤ f .newL) ≡ true = eq-eqb _ 0 (ap natAbs (is-zero (h (c .before)) (c .if1 .taken))) in
+    rw e
+
 wet : (c : tie.After-carried) → natAbs (h (test c) .z) ≡ 0 → ⊥
 wet c = not-zero (h (test c)) (c .before .if1 .left)
 
@@ -55,13 +63,6 @@ slope-requires c κs = start (test c) .pre
 
 sub-result : tie.Need-sub-result
 sub-result c = fits (new c)
-
-returns : tie.Need-returns
-unfolding newVelocity
-returns c =
-    let f = start (c .before) .args .f in
-    let e : isZero (f .newK +ℤ f .newL) ≡ true = eq-eqb _ 0 (ap natAbs (is-zero (h (c .before)) (c .if1 .taken))) in
-    rw e
 
 returns-2 : tie.Need-returns-2
 unfolding newVelocity

@@ -7,12 +7,13 @@ use Rattle.face.proofs.out_above.Tie as tie
 abbrev sum : tie.After-struct-told2 → Node w32
 sum c = let r = c .before .before .pre in add (int (r .aboveK) tt) (int (r .aboveL) tt) tt
 
-add-result : tie.Need-add-result
-add-result c = fits (sum c)
-
+-- what it returns; then that each operation fits
 returns : tie.Need-returns
 unfolding outAbove
 returns c = value (sum c)
+
+add-result : tie.Need-add-result
+add-result c = fits (sum c)
 
 pub out-above-spec : {M : Type 1} → statement M
 out-above-spec = tie.close (tie.spec add-result returns)

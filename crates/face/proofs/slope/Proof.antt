@@ -28,6 +28,11 @@ top c = mul (gravity c) (cast (rise c) tt) tt
 abbrev below : tie.After-struct-told4 → Node w64
 below c = mul (lit 1000 tt) (nat (start c .pre .side .high) tt) tt
 
+-- what it returns; then that each operation fits
+returns : tie.Need-returns
+unfolding slope Step·rise
+returns c = value (quot (top c) (below c))
+
 add-rise : tie.Need-add-rise
 add-rise c = fits (level-l c)
 
@@ -57,10 +62,6 @@ mul-below c = fits (below c)
 
 div-result : tie.Need-div-result
 div-result c = divides (top c) (below c) (omega (arith, start c .pre .side .low))
-
-returns : tie.Need-returns
-unfolding slope Step·rise
-returns c = value (quot (top c) (below c))
 
 pub slope-spec : {M : Type 1} → statement M
 slope-spec =

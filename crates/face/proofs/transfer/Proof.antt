@@ -36,6 +36,10 @@ d c = nat (c .before .pre .side .high) tt
 abbrev below : tie.After-upwind → Node w64
 below c = mul (lit 1000 tt) (d c) tt
 
+-- what it returns; then that each operation fits
+returns : tie.Need-returns
+returns c = value (quot (top c) (below c)) ∙ transfer-quot _ _ _ _ _ (c .before .pre .heightK .low) (c .before .pre .heightL .low)
+
 upwind-requires : tie.Need-upwind-requires
 upwind-requires c κs = tt
 
@@ -62,9 +66,6 @@ mul-below c = fits (below c)
 
 div-result : tie.Need-div-result
 div-result c = divides (top c) (below c) (omega (arith, c .before .pre .side .low))
-
-returns : tie.Need-returns
-returns c = value (quot (top c) (below c)) ∙ transfer-quot _ _ _ _ _ (c .before .pre .heightK .low) (c .before .pre .heightL .low)
 
 pub transfer-spec : {M : Type 1} → statement M
 transfer-spec =
