@@ -2,11 +2,10 @@
 pub mod window;
 
 ghost use mathlib.Core.Path.{_≡_};
-ghost use Prim.Native.Nat.{_<_};
+ghost use Prim.Native.Nat.{_<_, _≤_};
 ghost use lib.IntN.{pos};
-ghost use lib.Signed.{leZ};
 ghost use Rattle.rules.specs.Search.{cellAlong, listed as Search·listed};
-ghost use Rattle.chamber.specs.OnSite.{OnSite, Wet, cellPlace};
+ghost use Rattle.chamber.specs.OnSite.{OnSite, Wet, cellPlace, DeepEnough};
 use rules::Card;
 use rules::Window;
 
@@ -32,20 +31,25 @@ fn cell_place(card: Card, x: i64, y: i64) -> usize
     row * (card.columns as usize) + column
 }
 
-fn deep_enough(height: i32, depth: i32) -> bool
-    ensures { λ r. ⌜ r ≡ leZ depth height ⌝ }
+// A height and a depth are whole micrometres, not below 0. Nothing is rounded before they are compared.
+fn deep_enough(height: u32, depth: u32) -> bool
+    requires { ⌜ (height ≤ 50000000) × (depth ≤ 50000000) ⌝ }
+    ensures { λ r. ⌜ DeepEnough height depth r ⌝ }
 {
-    depth <= height
+    if depth <= height {
+        return true;
+    }
+    false
 }
 
 // Whether it is inside the window, and its cell's kept height at least the depth asked.
 pub fn listed(card: Card, state: &[i32], window: Window, depth: i32, x: i64, y: i64) -> bool
-    requires { ⌜ Wet card (now state) x y ⌝ }
+    requires { ⌜ Wet card (now state) depth x y ⌝ }
     ensures { λ r. ⌜ r ≡ Search·listed card (now (state .entry)) window depth x y ⌝ }
 {
     if window::inside(window, x, y) {
         let at = cell_place(card, x, y);
-        return deep_enough(state[at], depth);
+        return deep_enough(state[at] as u32, depth as u32);
     }
     false
 }

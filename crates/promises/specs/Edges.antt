@@ -13,7 +13,7 @@ use lib.Ieee.Exact.{HasValue}
 use lib.Ieee.Back.{round-whole}
 use lib.Ieee.Fits.{down-pos}
 use borrow.Author.Tests.{lt-ltb, le-ltb, le-leb, lt-leb, eq-eqb, ne-eqb, leb-true, leb-false}
-use Rattle.rules.specs.Search.{asFloat, between}
+use Rattle.rules.specs.Search.{asFloat, inOrder}
 use Rattle.laws.specs.Tests.{both-ways}
 
 -- ---- Exact numbers. A finite float is ±m · 2 ^ e, that is ±(m · up e) / down e, where 2 ^ e is up e / down e.
@@ -173,8 +173,8 @@ neither true true f = absurd (f tt tt)
 neither true false f = refl
 neither false b f = refl
 
-pub between-empty : (low high : Float) (n : ℕ) → n ≤ 2 ^ 53 → T (lt high low) → between low (asFloat (pos n)) high ≡ false
-between-empty low high n h l =
+pub none-in-order : (low high : Float) (n : ℕ) → n ≤ 2 ^ 53 → T (lt high low) → inOrder low (asFloat (pos n)) high ≡ false
+none-in-order low high n h l =
     neither (le low (asFloat (pos n))) (le (asFloat (pos n)) high)
     (λ a b. no-way low high n (subst T (low-exact low n h) a) (subst T (high-exact high n h) b) l)
 

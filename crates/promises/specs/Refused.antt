@@ -12,6 +12,7 @@ use Rattle.rules.specs.Site.{checkWith}
 use Rattle.rules.specs.Run.{Outcome}
 use Rattle.rules.specs.Sheet.{readNumber, noCard}
 use Rattle.rules.specs.Calls.{stepAnswer, stepNext, runOutcome, runTally, runState, runScratch, searchNumber, searchFound, searchCheck, searchAnswer, readAnswer, readGroundList, readStateList, writeNumber, writeAnswer, writeBytes}
+use Rattle.laws.specs.Asked.{places-refused}
 use Rattle.laws.specs.Outcomes.{if-done, if-refused}
 use Rattle.laws.specs.Runs.{refused-after}
 
@@ -46,7 +47,7 @@ search-refused c g s xs ys w depth found h = if-refused _ _ _ (ne-of-gt h)
 pub no-count : (c : Card) (g s xs ys : List ℤ) (w : Window) (depth : ℤ) (found : List ℕ) → 0 < searchCheck c g s xs ys w depth
     → searchAnswer c g s xs ys w depth found .count ≡ 0
 unfolding searchAnswer
-no-count c g s xs ys w depth found h = if-refused _ _ _ (ne-of-gt h)
+no-count c g s xs ys w depth found h = ap length (places-refused c g s xs ys w depth (ne-of-gt h))
 
 -- sheet reader: an all-zero card, lists as lent
 pub record ReadRefused (sheet : List ℕ) (g s : List ℤ) : Type 0 where

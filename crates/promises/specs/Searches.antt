@@ -16,17 +16,17 @@ use lib.Ieee.{Float, binary64, lt, le, ofBits}
 use borrow.Author.Tests.{le-leb, leb-true, leb-false}
 use Rattle.rules.specs.declared.Card.{Card}
 use Rattle.rules.specs.declared.Window.{Window}
-use Rattle.rules.specs.Site.{cardFits, readState, firstOf, firstRefusal, ifDone}
-use Rattle.rules.specs.Search.{isFinite, edgesFinite, asFloat, between, inside, cellAlong, listed, listedAt, places, listOf, askedFits}
-use Rattle.rules.specs.Calls.{searchCheck, searchNumber, searchAnswer, searchFound}
+use Rattle.rules.specs.Site.{cardFits, readState, firstOf, firstRefusal}
+use Rattle.rules.specs.Search.{isFinite, edgesFinite, asFloat, inOrder, inside, cellAlong, listed, listedAt, places, listOf, askedFits}
+use Rattle.rules.specs.Calls.{searchCheck, searchPlaces, searchNumber, searchAnswer, searchFound}
 use Rattle.laws.specs.Facts.{card-facts}
-use Rattle.laws.specs.Outcomes.{first-passed, both-passed}
+use Rattle.laws.specs.Outcomes.{both-passed, if-done}
 use Rattle.laws.specs.Sheets.{passed}
 use Rattle.laws.specs.Along.{along-whole, along-high, all-along, reach-high}
-use Rattle.laws.specs.Asked.{asked-facts}
+use Rattle.laws.specs.Asked.{search-check-is, asked-facts, places-passed, number-passed}
 use Rattle.laws.specs.Rising.{rising, sound, complete, places-empty}
 use Rattle.promises.specs.Refused.{search-refused}
-use Rattle.promises.specs.Edges.{atMost, atLeast, low-exact, high-exact, between-empty, zero-low, zero-high}
+use Rattle.promises.specs.Edges.{atMost, atLeast, low-exact, high-exact, none-in-order, zero-low, zero-high}
 
 -- ---- One chamber against the window, in exact numbers
 
@@ -56,8 +56,8 @@ unfolding inside TurnedOver
 outside w x y o over = ap₂ (inside w) (o .x-whole) (o .y-whole) ∙ go over
   where
     go : T (lt (w .east) (w .west)) ⊎ T (lt (w .north) (w .south)) → inside w (pos (natAbs x)) (pos (natAbs y)) ≡ false
-    go (inl t) = rw (between-empty (w .west) (w .east) (natAbs x) (o .x-small) t)
-    go (inr t) = rw (between-empty (w .south) (w .north) (natAbs y) (o .y-small) t) (and-false (between (w .west) (asFloat (pos (natAbs x))) (w .east)))
+    go (inl t) = rw (none-in-order (w .west) (w .east) (natAbs x) (o .x-small) t)
+    go (inr t) = rw (none-in-order (w .south) (w .north) (natAbs y) (o .y-small) t) (and-false (inOrder (w .west) (asFloat (pos (natAbs x))) (w .east)))
 
 -- ---- What a call leaves
 
@@ -85,8 +85,7 @@ module _ (c : Card) (g s xs ys : List ℤ) (w : Window) (depth : ℤ) where
 
   -- room enough, and the call is done
   room-enough : (room : List ℕ) → searchCheck c g s xs ys w depth ≡ 0 → length theList ≤ length room → searchNumber c g s xs ys w depth room ≡ 0
-  unfolding searchNumber
-  room-enough room e h = first-passed (searchCheck c g s xs ys w depth) _ e ∙ ap (λ (b : Bool). cond b 0 8) (le-leb (length theList) (length room) h)
+  room-enough room e h = number-passed c g s xs ys w depth room e ∙ ap (λ (b : Bool). cond b 0 8) (le-leb (length theList) (length room) h)
 
   module _ (lent : List ℕ) where
     abbrev count : ℕ
@@ -96,19 +95,19 @@ module _ (c : Card) (g s xs ys : List ℤ) (w : Window) (depth : ℤ) where
     left i = getD (searchFound c g s xs ys w depth lent) i 0
 
     count-is : searchCheck c g s xs ys w depth ≡ 0 → count ≡ length theList
-    unfolding searchAnswer ifDone
-    count-is e = rw e
+    unfolding searchAnswer
+    count-is e = ap length (places-passed c g s xs ys w depth e)
 
     -- a number 0 is 0 of the checks, and room enough
     done : searchNumber c g s xs ys w depth lent ≡ 0 → (searchCheck c g s xs ys w depth ≡ 0) × (length theList ≤ length lent)
     unfolding searchNumber
     done e =
-        let b = both-passed (searchCheck c g s xs ys w depth) _ e in
-        (b .0, leb-true (length theList) (length lent) (passed (leb (length theList) (length lent)) 0 7 (b .1) .0))
+        let check = both-passed (searchCheck c g s xs ys w depth) _ e .0 in
+        (check, leb-true (length theList) (length lent) (passed (leb (length theList) (length lent)) 0 7 (sym (number-passed c g s xs ys w depth lent check) ∙ e) .0))
 
     found-is : searchNumber c g s xs ys w depth lent ≡ 0 → searchFound c g s xs ys w depth lent ≡ theList ++ drop (length theList) lent
-    unfolding searchFound ifDone
-    found-is e = rw e
+    unfolding searchFound
+    found-is e = if-done _ _ _ e ∙ ap (λ (l : List ℕ). l ++ drop (length l) lent) (places-passed c g s xs ys w depth (done e .0))
 
     front : searchNumber c g s xs ys w depth lent ≡ 0 → (i : ℕ) → i < length theList → left i ≡ getD theList i 0
     front e i h = ap (λ (l : List ℕ). getD l i 0) (found-is e) ∙ List·getD-append theList (drop (length theList) lent) 0 i h
@@ -161,10 +160,10 @@ module _ (c : Card) (g s xs ys : List ℤ) (w : Window) (depth : ℤ) where
       pub list-as-lent : searchFound c g s xs ys w depth lent ≡ lent
 
     checked-at-8 : searchNumber c g s xs ys w depth lent ≡ 8 → (searchCheck c g s xs ys w depth ≡ 0) × (length lent < length theList)
-    unfolding searchNumber searchCheck
+    unfolding searchNumber
     checked-at-8 e =
-        let t = too-short (searchCheck c g s xs ys w depth) (leb (length theList) (length lent)) (checks-below-8 (cardFits c) _ _) e in
-        (t .0, leb-false (length theList) (length lent) (t .1))
+        let t = too-short (searchCheck c g s xs ys w depth) (leb (length (searchPlaces c g s xs ys w depth)) (length lent)) (rw search-check-is (checks-below-8 (cardFits c) _ _)) e in
+        (t .0, leb-false (length theList) (length lent) (rw (places-passed c g s xs ys w depth (t .0)) at (t .1)))
 
     pub count-at-8 : searchNumber c g s xs ys w depth lent ≡ 8 → TooShort
     count-at-8 e =
@@ -269,18 +268,22 @@ module _ {w v : Window} (m : SameWindow w v) where
     same-list i = places (length xs) (λ k. same-inside (getD xs k (pos 0)) (getD ys k (pos 0)) i && leZ depth (readState c s .height (cellAlong (c .dx) (c .columns) (getD xs k (pos 0))) (cellAlong (c .dy) (c .rows) (getD ys k (pos 0)))))
 
     same-check : searchCheck c g s xs ys w depth ≡ searchCheck c g s xs ys v depth
-    unfolding searchCheck askedFits
-    same-check = rw same-edges
+    unfolding askedFits
+    same-check = search-check-is c g s xs ys w depth ∙ rw same-edges (sym (search-check-is c g s xs ys v depth))
+
+    same-places : searchPlaces c g s xs ys w depth ≡ searchPlaces c g s xs ys v depth
+    unfolding searchPlaces
+    same-places = rw (same-check, same-list)
 
     module _ (lent : List ℕ) where
       same-number : searchNumber c g s xs ys w depth lent ≡ searchNumber c g s xs ys v depth lent
       unfolding searchNumber
-      same-number = rw (same-check, same-list)
+      same-number = rw (same-check, same-places)
 
       pub minus-zero-answer : searchAnswer c g s xs ys w depth lent ≡ searchAnswer c g s xs ys v depth lent
       unfolding searchAnswer
-      minus-zero-answer = rw (same-number, same-check, same-list)
+      minus-zero-answer = rw (same-number, same-places)
 
       pub minus-zero-list : searchFound c g s xs ys w depth lent ≡ searchFound c g s xs ys v depth lent
       unfolding searchFound
-      minus-zero-list = rw (same-number, same-list)
+      minus-zero-list = rw (same-number, same-places)

@@ -1,7 +1,9 @@
 -- Document 01, "Calls and their numbers": of every public call, what it returns and what each lent list holds at exit, for every input.
+-- Of the first three checks `firstOf` gives the lowest number that applies; `firstRefusal` puts a later number behind them; `ifDone` says what is left where
+-- the number is 0, and where not (Site.antt).
 use Prim.Native.Nat.{ℕ}
 use mathlib.Core.Bool.{cond, _&&_}
-use mathlib.Core.List.{List, _++_}
+use mathlib.Core.List.{List, [], _++_}
 use lib.ListN.{length, drop, replicate}
 use lib.IntN.{ℤ, pos}
 use lib.Dec.{leb}
@@ -42,25 +44,26 @@ runScratch c g s scratch = ifDone (checkWith c g s (length scratch)) (replicate 
 
 -- ---- Search: done: the count, the first count places filled, the rest as lent. 8: the count needed, list as lent. 1 to 3: count 0, list as lent.
 
-unfoldable pub searchCheck : Card → (ground state : List ℤ) → (xs ys : List ℤ) → Window → (depth : ℤ) → ℕ
-searchCheck c g s xs ys w depth =
-    firstOf (cardFits c) (lengthsFit c g s && registerFits xs ys) (valuesFit c (readGround c g) (readState c s) && askedFits c xs ys w depth)
+module _ (c : Card) (ground state xs ys : List ℤ) (w : Window) (depth : ℤ) where
+  -- the first three checks, which look at the register and at what is asked too
+  unfoldable pub searchCheck : ℕ
+  searchCheck =
+      firstOf (cardFits c) (lengthsFit c ground state && registerFits xs ys) (valuesFit c (readGround c ground) (readState c state) && askedFits c xs ys w depth)
 
-unfoldable pub searchNumber : Card → (ground state : List ℤ) → (xs ys : List ℤ) → Window → (depth : ℤ) (found : List ℕ) → ℕ
-searchNumber c g s xs ys w depth found =
-    firstRefusal (searchCheck c g s xs ys w depth) (cond (leb (length (listOf c s w depth xs ys)) (length found)) 0 8)
+  -- the places that are to be handed over: none where a check refuses
+  unfoldable pub searchPlaces : List ℕ
+  searchPlaces = ifDone searchCheck (listOf c state w depth xs ys) []
 
-unfoldable pub searchAnswer : Card → (ground state : List ℤ) → (xs ys : List ℤ) → Window → (depth : ℤ) (found : List ℕ) → Found
-searchAnswer c g s xs ys w depth found = record {
-  number = searchNumber c g s xs ys w depth found;
-  count = ifDone (searchCheck c g s xs ys w depth) (length (listOf c s w depth xs ys)) 0;
-}
+  module _ (found : List ℕ) where
+    unfoldable pub searchNumber : ℕ
+    searchNumber = firstRefusal searchCheck (cond (leb (length searchPlaces) (length found)) 0 8)
 
-unfoldable pub searchFound : Card → (ground state : List ℤ) → (xs ys : List ℤ) → Window → (depth : ℤ) (found : List ℕ) → List ℕ
-searchFound c g s xs ys w depth found =
-    ifDone (searchNumber c g s xs ys w depth found)
-    (listOf c s w depth xs ys ++ drop (length (listOf c s w depth xs ys)) found)
-    found
+    -- The count is how many places there are, and not how many were handed over: at 8 it says how long a list is needed.
+    unfoldable pub searchAnswer : Found
+    searchAnswer = record { number = searchNumber; count = length searchPlaces }
+
+    unfoldable pub searchFound : List ℕ
+    searchFound = ifDone searchNumber (searchPlaces ++ drop (length searchPlaces) found) found
 
 -- ---- Sheet reader: the number, site card, ground, state. Refused: an all-zero card, lists as lent.
 

@@ -28,12 +28,13 @@ edgesFinite w = isFinite (w .west) && isFinite (w .south) && isFinite (w .east) 
 abbrev pub asFloat : ℤ → Float
 asFloat z = ofInt binary64 z
 
-abbrev pub between : (low v high : Float) → Bool
-between low v high = le low v && le v high
+-- low ≤ v ≤ high
+abbrev pub inOrder : (low v high : Float) → Bool
+inOrder low v high = le low v && le v high
 
 -- west ≤ x ≤ east and south ≤ y ≤ north
 unfoldable pub inside : Window → (x y : ℤ) → Bool
-inside w x y = between (w .west) (asFloat x) (w .east) && between (w .south) (asFloat y) (w .north)
+inside w x y = inOrder (w .west) (asFloat x) (w .east) && inOrder (w .south) (asFloat y) (w .north)
 
 -- ---- One chamber
 

@@ -9,13 +9,15 @@ use lib.ListN.{length, drop}
 use Rattle.rules.specs.declared.Card.{Card}
 use Rattle.rules.specs.declared.Window.{Window}
 use Rattle.rules.specs.declared.Found.{Found}
-use Rattle.rules.specs.Site.{cardFits, cells}
+use Rattle.rules.specs.Site.{cardFits, cells, heightFits, heightsFit, readState}
 use Rattle.rules.specs.Search.{allAlong, listOf}
 
--- the whole register
-pub record Checked (c : Card) (s xs ys : List ℤ) : Type 0 where
+-- the whole register, the heights and the depth asked
+pub record Checked (c : Card) (s xs ys : List ℤ) (depth : ℤ) : Type 0 where
   pub card : cardFits c ≡ true
   pub heights : cells c ≤ length s
+  pub kept : heightsFit c (readState c s) ≡ true
+  pub asked : heightFits depth ≡ true
   pub same : length xs ≡ length ys
   pub few : length xs ≤ 1000
   pub x-fits : allAlong (c .columns * c .dx) xs ≡ true
@@ -27,8 +29,8 @@ pub record Listed (l old : List ℕ) (count : ℕ) (now : List ℕ) : Type 0 whe
   pub laid : now ≡ l ++ drop (length l) old
 
 -- the register and a draft that takes all of its places
-pub record Ready (c : Card) (s xs ys : List ℤ) (draft : List ℕ) : Type 0 where
-  pub checked : Checked c s xs ys
+pub record Ready (c : Card) (s xs ys : List ℤ) (depth : ℤ) (draft : List ℕ) : Type 0 where
+  pub checked : Checked c s xs ys depth
   pub draft-long : length draft ≡ 1000
 
 -- what is answered once the checks have passed: 0 and the list, or 8 and the list as lent, and the count in both cases

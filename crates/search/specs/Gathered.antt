@@ -17,5 +17,5 @@ PartsContract c g s both n w depth lent r left = SearchContract c g s (take n bo
 
 -- over 1,000 chambers are refused by their number, unless they are by the card
 pub record GatheredAnswer (c : Card) (g s both : List ℤ) (n : ℕ) (w : Window) (depth : ℤ) (lent : List ℕ) (r : Found) (left : List ℕ) : Type 0 where
-  pub many : 1000 < n → (r .number ≡ cond {A = ℕ} (cardFits c) 2 1) × (r .count ≡ 0) × (left ≡ lent)
+  pub many : 1000 < n → (r ≡ record { number = cond {A = ℕ} (cardFits c) 2 1; count = 0 }) × (left ≡ lent)
   pub few : n ≤ 1000 → PartsContract c g s both n w depth lent r left

@@ -1,13 +1,24 @@
 -- A row of chamber records laid into one array of numbers: the x of chamber i at place i, its y at place 1,000 + i.
 use mathlib.Core.Path.{_≡_, refl}
-use mathlib.Core.Bool.{cond}
-use Prim.Native.Nat.{ℕ, zero, suc, _+_}
+use mathlib.Core.Bool.{cond, _&&_}
+use Prim.Native.Nat.{ℕ, zero, suc, _+_, _≤_}
 use native.Mathlib.Numerals.{add-one}
 use mathlib.Core.List.{List}
-use lib.Dec.{ltb}
+use lib.Dec.{leb}
 use lib.IntN.{ℤ, pos}
 use lib.ListN.{length, getD, set, replicate}
+use Rattle.rules.specs.declared.Card.{Card}
 use Rattle.rules.specs.declared.Chamber.{Chamber}
+use Rattle.rules.specs.Site.{cardFits, lengthsFit}
+
+-- how many of n chambers are read: none where the card or a length is refused
+unfoldable pub toRead : Card → (ground state : List ℤ) (n : ℕ) → ℕ
+toRead c g s n = cond (cardFits c && (lengthsFit c g s && leb n 1000)) n 0
+
+-- so many are in the row, and in the array's room
+pub record Readable (row : List Chamber) (n : ℕ) : Type 0 where
+  pub most : n ≤ length row
+  pub few : n ≤ 1000
 
 -- what stands past a row's end
 abbrev pub none : Chamber
@@ -17,24 +28,17 @@ abbrev pub start : List ℤ
 start = replicate 2000 (pos 0)
 
 unfoldable pub putAt : List ℤ → ℕ → Chamber → List ℤ
-putAt both i c = cond (ltb i 1000) (set (set both i (c .x)) (1000 + i) (c .y)) both
+putAt both i c = set (set both i (c .x)) (1000 + i) (c .y)
 
 -- the first n chambers of the row
-unfoldable pub gatheredTo : List Chamber → ℕ → List ℤ
-gatheredTo row zero = start
-gatheredTo row (suc n) = putAt (gatheredTo row n) n (getD row n none)
+unfoldable pub gathered : List Chamber → ℕ → List ℤ
+gathered row zero = start
+gathered row (suc n) = putAt (gathered row n) n (getD row n none)
 
-unfoldable pub gathered : List Chamber → List ℤ
-gathered row = gatheredTo row (length row)
-
-pub gathered-none : (row : List Chamber) → gatheredTo row 0 ≡ start
-unfolding gatheredTo
+pub gathered-none : (row : List Chamber) → gathered row 0 ≡ start
+unfolding gathered
 gathered-none row = refl
 
-pub gathered-more : (row : List Chamber) (n : ℕ) → gatheredTo row (n + 1) ≡ putAt (gatheredTo row n) n (getD row n none)
-unfolding gatheredTo
-gathered-more row n = rw add-one refl
-
-pub gathered-all : (row : List Chamber) → gatheredTo row (length row) ≡ gathered row
+pub gathered-more : (row : List Chamber) (n : ℕ) → gathered row (n + 1) ≡ putAt (gathered row n) n (getD row n none)
 unfolding gathered
-gathered-all row = refl
+gathered-more row n = rw add-one refl

@@ -56,7 +56,7 @@ fn report(
     draft: &mut [u32],
     found: &mut [u32],
 ) -> Found
-    requires { ⌜ Ready card (now state) (now xs) (now ys) (now draft) ⌝ }
+    requires { ⌜ Ready card (now state) (now xs) (now ys) depth (now draft) ⌝ }
     ensures { λ r. ⌜ Reported card (now (state .entry)) (now (xs .entry)) (now (ys .entry)) window depth (now (found .entry)) r (now (found .exit)) ⌝ }
 {
     let n = register::list(card, state, window, depth, xs, ys, draft);

@@ -59,7 +59,7 @@ fn listed_at(
     ys: &[i64],
     k: usize,
 ) -> bool
-    requires { ⌜ Checked card (now state) (now xs) (now ys) × (k < length (now xs)) ⌝ }
+    requires { ⌜ Checked card (now state) (now xs) (now ys) depth × (k < length (now xs)) ⌝ }
     ensures { λ r. ⌜ r ≡ listedAt card (now (state .entry)) window depth (now (xs .entry)) (now (ys .entry)) k ⌝ }
 {
     listed(card, state, window, depth, xs[k], ys[k])
@@ -75,7 +75,7 @@ pub fn list(
     ys: &[i64],
     draft: &mut [u32],
 ) -> usize
-    requires { ⌜ Checked card (now state) (now xs) (now ys) × (length (now xs) ≤ length (now draft)) ⌝ }
+    requires { ⌜ Checked card (now state) (now xs) (now ys) depth × (length (now xs) ≤ length (now draft)) ⌝ }
     ensures { λ r. ⌜ Listed (listOf card (now (state .entry)) window depth (now (xs .entry)) (now (ys .entry))) (now (draft .entry)) r (now (draft .exit)) ⌝ }
 {
     let mut n: usize = 0;

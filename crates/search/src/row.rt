@@ -1,9 +1,9 @@
 // A row of chamber records, gathered into one array of numbers, and the search over that. The borrow checker covers no function over a
 // slice of structs, so `gather` is proved by hand; it leaves the work to functions on plain values, which are covered.
 ghost use mathlib.Core.Path.{_≡_};
-ghost use Prim.Native.Nat.{_≤_};
+ghost use Prim.Native.Nat.{_≤_, _<_};
 ghost use lib.ListN.{length};
-ghost use Rattle.search.specs.Row.{start, putAt, gathered};
+ghost use Rattle.search.specs.Row.{start, putAt, gathered, toRead, Readable};
 ghost use Rattle.search.specs.Gathered.{PartsContract, GatheredAnswer};
 use super::search_lists;
 use rules::Card;
@@ -17,26 +17,39 @@ fn empty() -> [i64; 2000]
     [0; 2000]
 }
 
-// Lays one chamber at place i: its x there, its y 1,000 places on. A place past the room changes nothing.
+// How many of a register's n chambers are to be read: all, or none where the card or a length is refused. So a refusal of these reads no chamber.
+pub fn to_read(card: Card, ground: &[i32], state: &[i32], n: usize) -> usize
+    ensures { λ r. ⌜ r ≡ toRead card (now (ground .entry)) (now (state .entry)) n ⌝ }
+{
+    if !site::card_fits(card) {
+        return 0;
+    }
+    let lengths = site::lengths_fit(card, ground, state) & (n <= 1000);
+    if !lengths {
+        return 0;
+    }
+    n
+}
+
+// Lays one chamber at place i: its x there, its y 1,000 places on.
 fn put(both: &mut [i64; 2000], i: usize, chamber: Chamber)
+    requires { ⌜ i < 1000 ⌝ }
     ensures { λ _. ⌜ now (both .exit) ≡ putAt (now (both .entry)) i chamber ⌝ }
 {
-    if 1000 <= i {
-        return;
-    }
     let x = chamber.x;
     let y = chamber.y;
     both[i] = x;
     both[1000 + i] = y;
 }
 
-// The row's chambers, each laid at its place.
-pub fn gather(row: &[Chamber]) -> [i64; 2000]
-    ensures { λ r. ⌜ r ≡ gathered (now (row .entry)) ⌝ }
+// The row's first n chambers, each laid at its place.
+pub fn gather(row: &[Chamber], n: usize) -> [i64; 2000]
+    requires { ⌜ Readable (now row) n ⌝ }
+    ensures { λ r. ⌜ r ≡ gathered (now (row .entry)) n ⌝ }
 {
     let mut both = empty();
     let mut i: usize = 0;
-    while i < row.len() {
+    while i < n {
         put(&mut both, i, row[i]);
         i += 1;
     }

@@ -51,8 +51,8 @@ pub extern "C" fn water_search_lists(
     search::search_lists(card, ground, state, xs, ys, window, depth, found)
 }
 
-// The same over a row of chamber records, with the same answer for every input. The borrow checker covers no function over a slice of structs, so this one is
-// proved by hand, and only hands on.
+// The same over a row of chamber records, with the same answer for every input. No chamber is read before the card and the lengths are right. The borrow checker
+// covers no function over a slice of structs, so this one is proved by hand, and only hands on.
 #[no_mangle]
 pub extern "C" fn water_search(
     card: Card,
@@ -65,11 +65,12 @@ pub extern "C" fn water_search(
 ) -> Found
     ensures { λ r. ⌜ RowSearchContract card (now (ground .entry)) (now (state .entry)) (now (chambers .entry)) window depth (now (found .entry)) r (now (found .exit)) ⌝ }
 {
+    let read = search::row::to_read(card, ground, state, chambers.len());
     search::row::search_gathered(
         card,
         ground,
         state,
-        search::row::gather(chambers),
+        search::row::gather(chambers, read),
         chambers.len(),
         window,
         depth,

@@ -8,8 +8,8 @@ use lib.ListN.{length}
 use mir.Facts.{toZ-ofZ}
 use Rattle.rules.specs.Site.{cardFits, lengthsFit, valuesFit, readGround, readState, firstOf}
 use Rattle.rules.specs.Search.{registerFits, askedFits}
-use Rattle.rules.specs.Calls.{searchCheck}
 use Rattle.laws.specs.Tests.{and-left, to-T, true-of}
+use Rattle.laws.specs.Asked.{search-check-is}
 use Rattle.search.proofs.search_check.Statement.{statement}
 use Rattle.search.proofs.search_check.Tie as tie
 
@@ -32,15 +32,15 @@ card-fits-requires : tie.Need-card-fits-requires
 card-fits-requires c κs = search needs
 
 returns : tie.Need-returns
-unfolding searchCheck firstOf
-returns c = rw (sym (c .before .card-fits .ensures) ∙ not-true _ (c .if1 .taken))
+unfolding firstOf
+returns c = rw (search-check-is, sym (c .before .card-fits .ensures) ∙ not-true _ (c .if1 .taken))
 
 lengths-fit-requires : tie.Need-lengths-fit-requires
 lengths-fit-requires c κs = card c
 
 returns-2 : tie.Need-returns-2
-unfolding searchCheck firstOf
-returns-2 c = rw (card (c .before .before), sym (lengths (c .before)) ∙ not-true _ (c .if2 .taken))
+unfolding firstOf
+returns-2 c = rw (search-check-is, card (c .before .before), sym (lengths (c .before)) ∙ not-true _ (c .if2 .taken))
 
 values-fit-requires : tie.Need-values-fit-requires
 values-fit-requires c κs =
@@ -54,16 +54,16 @@ asked-fits-requires : tie.Need-asked-fits-requires
 asked-fits-requires c κs = card (c .before .before .before)
 
 returns-3 : tie.Need-returns-3
-unfolding searchCheck firstOf
+unfolding firstOf
 returns-3 c =
     let e = c .before .before .before in
-    rw (card (e .before .before), sym (lengths (e .before)) ∙ not-false _ (e .if2 .left), sym (values (c .before)) ∙ not-true _ (c .if3 .taken))
+    rw (search-check-is, card (e .before .before), sym (lengths (e .before)) ∙ not-false _ (e .if2 .left), sym (values (c .before)) ∙ not-true _ (c .if3 .taken))
 
 returns-4 : tie.Need-returns-4
-unfolding searchCheck firstOf
+unfolding firstOf
 returns-4 c =
     let e = c .before .before .before in
-    rw (card (e .before .before), sym (lengths (e .before)) ∙ not-false _ (e .if2 .left), sym (values (c .before)) ∙ not-false _ (c .if3 .left))
+    rw (search-check-is, card (e .before .before), sym (lengths (e .before)) ∙ not-false _ (e .if2 .left), sym (values (c .before)) ∙ not-false _ (c .if3 .left))
 
 pub search-check-spec : {M : Type 1} → statement M
 search-check-spec =

@@ -34,8 +34,12 @@ slice-aggregate-report c = search needs
 report-requires : tie.Need-report-requires
 report-requires c κs =
     let e = c .before .before .before in
-    let a = e .before .before .before .args in
-    record { checked = checked-of (a .card) (a .ground .now) (a .state .now) (a .xs .now) (a .ys .now) (a .window) (a .depth) (passed e); draft-long = c .before .before .blank .ensures }
+    let o = e .before .before .before in
+    let a = o .args in
+    record {
+      checked = rw (toZ-ofZ (o .fits .depth)) (checked-of (a .card) (a .ground .now) (a .state .now) (a .xs .now) (a .ys .now) (a .window) (a .depth) (passed e));
+      draft-long = c .before .before .blank .ensures;
+    }
 
 same-length : tie.Need-same-length
 same-length c = search needs

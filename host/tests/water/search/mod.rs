@@ -2,6 +2,7 @@
 
 mod random;
 mod register;
+mod unread;
 mod window;
 
 use crate::library::{self, Question};

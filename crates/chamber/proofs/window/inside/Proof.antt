@@ -1,6 +1,5 @@
 -- `inside`: four tests, joined as the definition joins them.
 use borrow.Author.Needs.{needs}
-use mir.Facts.{toZ-ofZ}
 use Rattle.rules.specs.Search.{inside}
 use Rattle.chamber.proofs.window.inside.Statement.{statement}
 use Rattle.chamber.proofs.window.inside.Tie as tie
@@ -13,7 +12,7 @@ int-to-float-y c = search needs
 
 returns : tie.Need-returns
 unfolding inside
-returns c = let o = c .before .before .before .before .before .before in rw (toZ-ofZ (o .fits .x), toZ-ofZ (o .fits .y))
+returns c = search needs
 
 pub inside-spec : {M : Type 1} → statement M
 inside-spec = tie.close (tie.spec int-to-float-x int-to-float-y returns)

@@ -50,7 +50,7 @@ module _ (c : tie.After-listed-arg2) where
 listed-requires : tie.Need-listed-requires
 listed-requires c κs =
     let p = c .before .before .pre .0 in
-    record { on = record { card = p .card; x-fits = rw (x-is c) (x-fits c); y-fits = rw (y-is c) (y-fits c) }; heights = p .heights }
+    record { on = record { card = p .card; x-fits = rw (x-is c) (x-fits c); y-fits = rw (y-is c) (y-fits c) }; heights = p .heights; kept = p .kept; asked = rw (toZ-ofZ (c .before .before .fits .depth)) (p .asked) }
 
 returns : tie.Need-returns
 returns c =

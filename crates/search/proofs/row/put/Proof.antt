@@ -1,16 +1,11 @@
--- `search::row::put` meets its contract.
+-- `put`: both places lie in the array.
 use borrow.Author.Needs.{needs}
-use borrow.Author.Tests.{le-ltb, lt-ltb}
 use mathlib.Core.Path.{_≡_}
 use mir.Syntax.{w64}
 use mir.Val.{toZ, ofZ}
 use Rattle.search.specs.Row.{putAt}
 use Rattle.search.proofs.row.put.Statement.{statement}
 use Rattle.search.proofs.row.put.Tie as tie
-
-returns : tie.Need-returns
-unfolding putAt
-returns c = let a = c .before .args in simp (le-ltb (a .i) 1000 (c .if1 .taken))
 
 mul-x : tie.Need-mul-x
 mul-x c = search needs
@@ -27,13 +22,13 @@ mul-y c = search needs
 element-set-from-y : tie.Need-element-set-from-y
 element-set-from-y c = search needs
 
-returns-2 : tie.Need-returns-2
+returns : tie.Need-returns
 unfolding putAt
-returns-2 c =
-    let a = c .before .before .before .args in
+returns c =
+    let a = c .before .before .args in
     let x-is : toZ w64 (ofZ w64 (a .chamber .x)) ≡ a .chamber .x = search needs in
     let y-is : toZ w64 (ofZ w64 (a .chamber .y)) ≡ a .chamber .y = search needs in
-    simp (x-is, y-is, lt-ltb (a .i) 1000 (c .before .before .if1 .left))
+    simp (x-is, y-is)
 
 pub put-spec : {M : Type 1} → statement M
-put-spec = tie.close (tie.spec returns mul-x element-set-from-x add-y mul-y element-set-from-y returns-2)
+put-spec = tie.close (tie.spec mul-x element-set-from-x add-y mul-y element-set-from-y returns)

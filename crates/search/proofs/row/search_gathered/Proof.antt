@@ -12,10 +12,10 @@ card-fits-requires : tie.Need-card-fits-requires
 card-fits-requires c κs = search needs
 
 returns : tie.Need-returns
-returns c = record { many = λ h. (rw (sym (c .before .card-fits .ensures) ∙ c .if2 .taken), refl, refl); few = λ h. absurd (not-le-of-lt (c .before .before .if1 .taken) h) }
+returns c = record { many = λ h. (rw (sym (c .before .card-fits .ensures) ∙ c .if2 .taken), refl); few = λ h. absurd (not-le-of-lt (c .before .before .if1 .taken) h) }
 
 returns-2 : tie.Need-returns-2
-returns-2 c = record { many = λ h. (rw (sym (c .before .card-fits .ensures) ∙ c .if2 .left), refl, refl); few = λ h. absurd (not-le-of-lt (c .before .before .if1 .taken) h) }
+returns-2 c = record { many = λ h. (rw (sym (c .before .card-fits .ensures) ∙ c .if2 .left), refl); few = λ h. absurd (not-le-of-lt (c .before .before .if1 .taken) h) }
 
 slice-aggregate-search-parts : tie.Need-slice-aggregate-search-parts
 slice-aggregate-search-parts c = search needs
