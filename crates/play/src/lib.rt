@@ -19,11 +19,11 @@ fn play_number(input: &[u8]) -> u32
     if 16659 < input.len() {
         return 8;
     }
-    let own = sheet::own_number(input);
+    let own = sheet_reader::own_number(input);
     if own != 0 {
         return own;
     }
-    let card = sheet::card_in(input);
+    let card = sheet_reader::card_in(input);
     if (card.columns <= 32) & (card.rows <= 32) {
         return 0;
     }
@@ -57,7 +57,7 @@ fn print_sheet(
     requires { ⌜ Cut (now sheet) (now ground) (now state) (now scratch) (length (now page)) ⌝ }
     ensures { λ r. ⌜ Appended (played (now (sheet .entry))) 0 r (now (page .entry)) (now (page .exit)) ⌝ }
 {
-    let heard = sheet::read_sheet(sheet, ground, state);
+    let heard = sheet_reader::read_sheet(sheet, ground, state);
     let card = heard.card;
     print_run(card, ground, state, scratch, page)
 }
@@ -73,7 +73,7 @@ fn print_cut(
     requires { ⌜ Uncut (now sheet) (now ground) (now state) (now scratch) (length (now page)) ⌝ }
     ensures { λ r. ⌜ Appended (played (now (sheet .entry))) 0 r (now (page .entry)) (now (page .exit)) ⌝ }
 {
-    let card = sheet::card_in(sheet);
+    let card = sheet_reader::card_in(sheet);
     let cells = site::cells(card);
     let words = site::state_length(card);
     print_sheet(

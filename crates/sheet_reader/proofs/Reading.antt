@@ -1,0 +1,205 @@
+-- The reader's numbers and outcomes, as its functions come to them.
+use Prim.Native.Nat.{ℕ, suc, _+_, _*_, _-_, _<_, _≤_}
+use mathlib.Core.Path.{_≡_, refl, sym, ap, ap₂, _∙_}
+use mathlib.Core.Bool.{Bool, true, false, cond, _&&_}
+use mathlib.Core.List.{List, _++_}
+use native.Mathlib.Nat.{suc-ne-zero}
+use native.Mathlib.Omega.{arith}
+use lib.IntN.{ℤ}
+use lib.ListN.{length, take, drop}
+use lib.Seq.{take-take, take-add, take-at, drop-at, drop-drop, length-take-le}
+use lib.Dec.{eqb}
+use borrow.Author.Tests.{le-leb, lt-leb, eq-eqb}
+use Rattle.rules.specs.declared.Card.{Card}
+use Rattle.rules.specs.Site.{stateLength, cardFits, lengthsFit, valuesFit, readGround, readState, firstOf}
+use Rattle.rules.specs.Sheet.{numberIn, wordsIn, cardIn, groundIn, stateIn, headFits, sheetLengthsFit, readNumber, noCard}
+use Rattle.rules.specs.Calls.{readAnswer, readGroundList, readStateList}
+use Rattle.rules.specs.Contracts.{ReadContract}
+use Rattle.laws.specs.Facts.{Sized, card-facts}
+use Rattle.laws.specs.Outcomes.{if-done, if-refused}
+use Rattle.laws.specs.Parts.{back-length}
+use Rattle.laws.specs.Words.{in-add}
+use Rattle.laws.specs.Sheets.{size-words, size-facts, read-facts, length-ground-in}
+use Rattle.sheet_reader.specs.Front.{frontNumber, sheetValuesFit}
+use Rattle.sheet_reader.specs.Lent.{Joined, Ready}
+
+-- ---- the head
+
+pub head-short : (l : List ℕ) → length l < 19 → false ≡ headFits l
+unfolding headFits
+head-short l h = rw (lt-leb 19 (length l) h)
+
+pub head-long : (l : List ℕ) (named version : ℕ) → 19 ≤ length l → named ≡ numberIn 4 l → version ≡ numberIn 1 (drop 4 l) → (eqb named (length l) && eqb version 1) ≡ headFits l
+unfolding headFits
+head-long l named version h p q = rw (le-leb 19 (length l) h, p, q)
+
+-- ---- before the values
+
+module _ (l : List ℕ) (n m : ℕ) where
+  pub front-9 : headFits l ≡ false → 9 ≡ frontNumber l n m
+  unfolding frontNumber
+  front-9 h = rw h
+
+  module _ (h : headFits l ≡ true) where
+    pub front-1 : cardFits (cardIn l) ≡ false → 1 ≡ frontNumber l n m
+    unfolding frontNumber firstOf
+    front-1 k = rw (h, k)
+
+    module _ (k : cardFits (cardIn l) ≡ true) where
+      pub front-2 : sheetLengthsFit l n m ≡ false → 2 ≡ frontNumber l n m
+      unfolding frontNumber firstOf
+      front-2 j = rw (h, k, j)
+
+      pub front-0 : sheetLengthsFit l n m ≡ true → 0 ≡ frontNumber l n m
+      unfolding frontNumber firstOf
+      front-0 j = rw (h, k, j)
+
+  -- ---- with the values
+
+  pub record Front : Type 0 where
+    pub head : headFits l ≡ true
+    pub card : cardFits (cardIn l) ≡ true
+    pub lengths : sheetLengthsFit l n m ≡ true
+
+  pub front-facts : frontNumber l n m ≡ 0 → Front
+  unfolding frontNumber firstOf
+  front-facts e = go (headFits l) (cardFits (cardIn l)) (sheetLengthsFit l n m) refl refl refl e
+    where
+      go : (a b d : Bool) → headFits l ≡ a → cardFits (cardIn l) ≡ b → sheetLengthsFit l n m ≡ d → cond a (firstOf b d true) 9 ≡ 0 → Front
+      go false b d p q r e = absurd (suc-ne-zero 8 e)
+      go true false d p q r e = absurd (suc-ne-zero 0 e)
+      go true true false p q r e = absurd (suc-ne-zero 1 e)
+      go true true true p q r e = record { head = p; card = q; lengths = r }
+
+  pub front-refused : (frontNumber l n m ≡ 0 → ⊥) → frontNumber l n m ≡ readNumber l n m
+  unfolding frontNumber readNumber firstOf
+  front-refused h = go (headFits l) (cardFits (cardIn l)) (sheetLengthsFit l n m) _ h
+    where
+      go : (a b d v : Bool) → (cond a (firstOf b d true) 9 ≡ 0 → ⊥) → cond a (firstOf b d true) 9 ≡ cond a (firstOf b d v) 9
+      go false b d v h = refl
+      go true false d v h = refl
+      go true true false v h = refl
+      go true true true v h = absurd (h refl)
+
+  pub front-told : (k : ℕ) → suc k ≡ frontNumber l n m → suc k ≡ readNumber l n m
+  front-told k e = e ∙ front-refused (λ z. suc-ne-zero k (e ∙ z))
+
+  module _ (f : Front) where
+    pub number-3 : sheetValuesFit l ≡ false → 3 ≡ readNumber l n m
+    unfolding readNumber firstOf sheetValuesFit
+    number-3 v = rw (f .head, f .card, f .lengths, v)
+
+    pub number-0 : sheetValuesFit l ≡ true → 0 ≡ readNumber l n m
+    unfolding readNumber firstOf sheetValuesFit
+    number-0 v = rw (f .head, f .card, f .lengths, v)
+
+    -- how many bytes and words there are
+    pub long : length l ≡ 19 + 4 * (n + m)
+    long = let s = size-facts l n m (f .lengths) in s .sized ∙ size-words (cardIn l) ∙ omega arith
+
+    pub few : n + m ≤ 65792
+    few = let s = size-facts l n m (f .lengths) in let r = card-facts (cardIn l) (f .card) in omega arith
+
+    -- the sheet's words are its ground and its state
+    pub joined : wordsIn (n + m) (drop 19 l) ≡ groundIn l ++ stateIn l
+    unfolding groundIn stateIn
+    joined =
+        let s = size-facts l n m (f .lengths) in
+        in-add n m (drop 19 l)
+        ∙ ap (λ (r : List ℕ). wordsIn n (drop 19 l) ++ wordsIn m r) (drop-drop (4 * n) 19 l)
+        ∙ ap₂ (λ (i j : ℕ). wordsIn i (drop 19 l) ++ wordsIn j (drop (19 + 4 * i) l)) (s .ground) (s .state)
+
+-- ---- the parts of a draft that begins with g and then s
+
+module _ (d g s : List ℤ) (n m : ℕ) (e : take (n + m) d ≡ g ++ s) (h : length g ≡ n) where
+  pub first-part : take n d ≡ g
+  first-part = sym (take-take n (n + m) d (omega arith)) ∙ ap (take n) e ∙ take-at g s n h
+
+  pub second-part : n ≤ length d → take m (drop n d) ≡ s
+  second-part k =
+      sym (drop-at (take n d) (take m (drop n d)) n (length-take-le n d k))
+      ∙ ap (drop n) (sym (take-add n m d))
+      ∙ ap (drop n) e
+      ∙ drop-at g s n h
+
+-- a ground and a state, joined, have the lengths that the card asks for
+pub joined-sized : (c : Card) (words : List ℤ) (n : ℕ) → Joined c words n → Sized c (take n words) (take (length words - n) (drop n words))
+unfolding lengthsFit
+joined-sized c words n j =
+    let b = j .both in
+    let g : length (take n words) ≡ c .rows * c .columns = length-take-le n words (omega arith) ∙ j .ground in
+    let s : length (take (length words - n) (drop n words)) ≡ stateLength c = back-length n words ∙ omega arith in
+    record { card = j .card; lengths = rw (eq-eqb (length (take n words)) (c .rows * c .columns) g, eq-eqb (length (take (length words - n) (drop n words))) (stateLength c) s) }
+
+-- the check of the values, on the words that were read
+pub words-checked : (l : List ℕ) (c : Card) (w : List ℤ) (n : ℕ) → c ≡ cardIn l → w ≡ groundIn l ++ stateIn l → n ≡ length (groundIn l)
+    → valuesFit c (readGround c (take n w)) (readState c (drop n w)) ≡ sheetValuesFit l
+unfolding sheetValuesFit
+words-checked l c w n p q r =
+    let g : take n w ≡ groundIn l = ap (take n) q ∙ take-at (groundIn l) (stateIn l) n (sym r) in
+    let s : drop n w ≡ stateIn l = ap (drop n) q ∙ drop-at (groundIn l) (stateIn l) n (sym r) in
+    cc
+
+-- ---- a sheet whose values decide, and room for its words
+
+module _ (l : List ℕ) (n : ℕ) (words : List ℤ) (r : Ready l n words) where
+  ready : Front l n (length words - n)
+  ready = front-facts l n (length words - n) (r .front)
+
+  whole : n + (length words - n) ≡ length words
+  whole = let w = r .within in omega arith
+
+  pub ready-long : 19 + 4 * length words ≤ length l
+  ready-long = let w = whole in let k = long l n (length words - n) ready in omega arith
+
+  pub ready-ground : n ≡ length (groundIn l)
+  ready-ground = size-facts l n (length words - n) (ready .lengths) .ground ∙ sym (length-ground-in l)
+
+  pub ready-words : (w : List ℤ) → w ≡ wordsIn (length words) (drop 19 l) → w ≡ groundIn l ++ stateIn l
+  ready-words w e = e ∙ ap (λ (k : ℕ). wordsIn k (drop 19 l)) (sym whole) ∙ joined l n (length words - n) ready
+
+  pub ready-joined : (c : Card) (w : List ℤ) → c ≡ cardIn l → length w ≡ length words → Joined c w n
+  ready-joined c w p q =
+      let s = size-facts l n (length words - n) (ready .lengths) in
+      record {
+        card = ap cardFits p ∙ ready .card;
+        ground = s .ground ∙ ap (λ (x : Card). x .rows * x .columns) (sym p);
+        both = q ∙ sym whole ∙ ap (λ (k : ℕ). n + k) (s .state ∙ ap stateLength (sym p));
+      }
+
+-- the part of a draft that is to hold them
+pub look-ready : (l : List ℕ) (n m : ℕ) (d : List ℤ) → frontNumber l n m ≡ 0 → n + m ≤ length d → Ready l n (take (n + m) d)
+look-ready l n m d e h =
+    let k : length (take (n + m) d) ≡ n + m = length-take-le (n + m) d h in
+    let j : length (take (n + m) d) - n ≡ m = omega arith in
+    record { within = omega arith; front = ap (frontNumber l n) j ∙ e }
+
+-- ---- the outcomes
+
+-- a sheet that is read has no more words than the draft
+pub read-few : (l : List ℕ) (n m : ℕ) → readNumber l n m ≡ 0 → n + m ≤ 65792
+read-few l n m e = let r = read-facts l n m e in let k = card-facts (cardIn l) (r .card) in let s = r .sizes in omega arith
+
+module _ (l : List ℕ) (ground state : List ℤ) (r : ℕ) (e : r ≡ readNumber l (length ground) (length state)) where
+  abbrev number : ℕ
+  number = readNumber l (length ground) (length state)
+
+  pub refused : (c : Card) → c ≡ noCard → (r ≡ 0 → ⊥) → ReadContract l ground state (record { number = r; card = c }) ground state
+  unfolding readAnswer readGroundList readStateList
+  refused c p h =
+      let k : number ≡ 0 → ⊥ = λ z. h (e ∙ z) in
+      record {
+        answer = λ i. record { number = e i; card = (p ∙ sym (if-refused number (cardIn l) noCard k)) i };
+        ground-exit = sym (if-refused number (groundIn l) ground k);
+        state-exit = sym (if-refused number (stateIn l) state k);
+      }
+
+  pub accepted : (c : Card) (g s : List ℤ) → c ≡ cardIn l → g ≡ groundIn l → s ≡ stateIn l → r ≡ 0 → ReadContract l ground state (record { number = 0; card = c }) g s
+  unfolding readAnswer readGroundList readStateList
+  accepted c g s p q w z =
+      let k : number ≡ 0 = sym e ∙ z in
+      record {
+        answer = λ i. record { number = sym k i; card = (p ∙ sym (if-done number (cardIn l) noCard k)) i };
+        ground-exit = q ∙ sym (if-done number (groundIn l) ground k);
+        state-exit = w ∙ sym (if-done number (stateIn l) state k);
+      }

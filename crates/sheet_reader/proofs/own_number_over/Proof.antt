@@ -1,0 +1,69 @@
+-- `own_number_over`: the lists have the lengths that the header asks for.
+use mathlib.Core.Path.{_≡_, sym, ap, _∙_}
+use mathlib.Core.Bool.{true}
+use borrow.Author.Tests.{not-true, not-false}
+use Rattle.rules.specs.Site.{cardFits}
+use Rattle.rules.specs.Sheet.{headFits}
+use Rattle.laws.specs.Sheets.{head-facts}
+use Rattle.sheet_reader.proofs.Reading.{front-9, front-1, front-told}
+use borrow.Author.Needs.{needs}
+use Rattle.sheet_reader.proofs.own_number_over.Statement.{statement}
+use Rattle.sheet_reader.proofs.own_number_over.Tie as tie
+
+-- what is known at each place where a test was passed
+head : (e : tie.Else1) → headFits (e .before .before .before .args .sheet .now) ≡ true
+head e = sym (e .before .head-fits .ensures) ∙ not-false _ (e .if1 .left)
+
+carded : (e : tie.Else2) → cardFits (e .before .before .card-in .result) ≡ true
+carded e = sym (e .before .card-fits .ensures) ∙ not-false _ (e .if2 .left)
+
+head-fits-requires : tie.Need-head-fits-requires
+head-fits-requires c κs = search needs
+
+returns : tie.Need-returns
+returns c = front-told _ _ _ 8 (front-9 _ _ _ (sym (c .before .head-fits .ensures) ∙ not-true _ (c .if1 .taken)))
+
+card-in-requires : tie.Need-card-in-requires
+card-in-requires c κs = head-facts _ (head c) .long
+
+card-fits-requires : tie.Need-card-fits-requires
+card-fits-requires c κs = search needs
+
+returns-2 : tie.Need-returns-2
+returns-2 c =
+    let k = c .before .before in
+    front-told _ _ _ 0 (front-1 _ _ _ (head (k .before)) (ap cardFits (sym (k .card-in .ensures)) ∙ sym (c .before .card-fits .ensures) ∙ not-true _ (c .if2 .taken)))
+
+cells-requires : tie.Need-cells-requires
+cells-requires c κs = carded c
+
+state-length-requires : tie.Need-state-length-requires
+state-length-requires c κs = carded (c .before)
+
+look-requires : tie.Need-look-requires
+look-requires c κs = search needs
+
+same-length : tie.Need-same-length
+same-length c = search needs
+
+returns-3 : tie.Need-returns-3
+returns-3 c =
+    let w = c .before in
+    let n = w .before .before in
+    let k = n .before .before .before .before in
+    cc (w .look .ensures .0, n .state-length .ensures .0, n .before .cells .ensures .0, k .card-in .ensures)
+
+pub own-number-over-spec : {M : Type 1} → statement M
+own-number-over-spec =
+    tie.close
+    (tie.spec
+    head-fits-requires
+    returns
+    card-in-requires
+    card-fits-requires
+    returns-2
+    cells-requires
+    state-length-requires
+    look-requires
+    same-length
+    returns-3)

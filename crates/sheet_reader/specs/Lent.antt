@@ -1,0 +1,25 @@
+-- What the functions of this crate ask of what they are lent.
+use Prim.Native.Nat.{ℕ, _+_, _-_, _≤_}
+use lib.IntN.{ℤ}
+use mathlib.Core.List.{List}
+use mathlib.Core.Path.{_≡_}
+use mathlib.Core.Bool.{true}
+use lib.ListN.{length}
+use Rattle.rules.specs.declared.Card.{Card}
+use Rattle.rules.specs.Site.{cells, stateLength, cardFits}
+use Rattle.sheet_reader.specs.Front.{frontNumber}
+
+-- the n words of a card's ground, and its state behind them
+pub record Joined (c : Card) (words : List ℤ) (n : ℕ) : Type 0 where
+  pub card : cardFits c ≡ true
+  pub ground : n ≡ cells c
+  pub both : length words ≡ n + stateLength c
+
+-- a sheet whose values decide, and room for its ground, of n words, and its state
+pub record Ready (l : List ℕ) (n : ℕ) (words : List ℤ) : Type 0 where
+  pub within : n ≤ length words
+  pub front : frontNumber l n (length words - n) ≡ 0
+
+-- room in a draft for n words, if a sheet can have so many: that of 128 by 128 cells has 65,792
+pub record Room (n : ℕ) (draft : List ℤ) : Type 0 where
+  pub room : n ≤ 65792 → n ≤ length draft
