@@ -11,17 +11,18 @@ use lib.Seq.{take-take, take-add, take-at, drop-at, drop-drop, length-take-le}
 use lib.Dec.{eqb}
 use borrow.Author.Tests.{le-leb, lt-leb, eq-eqb}
 use Rattle.rules.specs.declared.Card.{Card}
-use Rattle.rules.specs.Site.{stateLength, cardFits, lengthsFit, valuesFit, readGround, readState, firstOf}
+use Rattle.rules.specs.Site.{stateLength, cardFits, lengthsFit, valuesFit, readGround, readState, firstOf, ifDone}
 use Rattle.rules.specs.Sheet.{numberIn, wordsIn, cardIn, groundIn, stateIn, headFits, sheetLengthsFit, readNumber, noCard}
 use Rattle.rules.specs.Calls.{readAnswer, readGroundList, readStateList}
 use Rattle.rules.specs.Contracts.{ReadContract}
+use Rattle.lists.specs.Renewed.{renewed}
 use Rattle.laws.specs.Facts.{Sized, card-facts}
-use Rattle.laws.specs.Outcomes.{if-done, if-refused}
+use Rattle.laws.specs.Outcomes.{if-refused, if-same}
 use Rattle.laws.specs.Parts.{back-length}
 use Rattle.laws.specs.Words.{in-add}
 use Rattle.laws.specs.Sheets.{size-words, size-facts, read-facts, length-ground-in}
 use Rattle.sheet_reader.specs.Front.{frontNumber, sheetValuesFit}
-use Rattle.sheet_reader.specs.Lent.{Joined, Ready}
+use Rattle.sheet_reader.specs.Lent.{Joined, Ready, Decided, Room}
 
 -- ---- the head
 
@@ -167,39 +168,48 @@ module _ (l : List ℕ) (n : ℕ) (words : List ℤ) (r : Ready l n words) where
         both = q ∙ sym whole ∙ ap (λ (k : ℕ). n + k) (s .state ∙ ap stateLength (sym p));
       }
 
--- the part of a draft that is to hold them
-pub look-ready : (l : List ℕ) (n m : ℕ) (d : List ℤ) → frontNumber l n m ≡ 0 → n + m ≤ length d → Ready l n (take (n + m) d)
-look-ready l n m d e h =
-    let k : length (take (n + m) d) ≡ n + m = length-take-le (n + m) d h in
-    let j : length (take (n + m) d) - n ≡ m = omega arith in
-    record { within = omega arith; front = ap (frontNumber l n) j ∙ e }
+-- ---- a sheet whose values decide
 
--- ---- the outcomes
+module _ (l : List ℕ) (n m : ℕ) (d : List ℤ) (k : Decided l n m d) where
+  pub decided : Front l n m
+  decided = front-facts l n m (k .front)
 
--- a sheet that is read has no more words than the draft
-pub read-few : (l : List ℕ) (n m : ℕ) → readNumber l n m ≡ 0 → n + m ≤ 65792
-read-few l n m e = let r = read-facts l n m e in let k = card-facts (cardIn l) (r .card) in let s = r .sizes in omega arith
+  -- the part of the draft that is to hold its words
+  pub look-ready : Ready l n (take (n + m) d)
+  look-ready =
+      let r = k .room in
+      let w : length (take (n + m) d) ≡ n + m = length-take-le (n + m) d r in
+      let j : length (take (n + m) d) - n ≡ m = omega arith in
+      record { within = omega arith; front = ap (frontNumber l n) j ∙ k .front }
+
+-- a draft with room has it for a sheet whose values decide
+pub decides : (l : List ℕ) (n m : ℕ) (d : List ℤ) → Room (n + m) d → frontNumber l n m ≡ 0 → Decided l n m d
+decides l n m d r e = record { front = e; room = r .room (few l n m (front-facts l n m e)) }
+
+-- ---- the outcome
 
 module _ (l : List ℕ) (ground state : List ℤ) (r : ℕ) (e : r ≡ readNumber l (length ground) (length state)) where
-  abbrev number : ℕ
-  number = readNumber l (length ground) (length state)
+  pub answered : (c : Card) (g s : List ℤ) → c ≡ ifDone r (cardIn l) noCard → g ≡ ifDone r (groundIn l) ground → s ≡ ifDone r (stateIn l) state
+      → ReadContract l ground state (record { number = r; card = c }) g s
+  unfolding readAnswer readGroundList readStateList
+  answered c g s p q w = record {
+    answer = λ i. record { number = e i; card = (p ∙ ap (λ (k : ℕ). ifDone k (cardIn l) noCard) e) i };
+    ground-exit = q ∙ ap (λ (k : ℕ). ifDone k (groundIn l) ground) e;
+    state-exit = w ∙ ap (λ (k : ℕ). ifDone k (stateIn l) state) e;
+  }
 
   pub refused : (c : Card) → c ≡ noCard → (r ≡ 0 → ⊥) → ReadContract l ground state (record { number = r; card = c }) ground state
-  unfolding readAnswer readGroundList readStateList
-  refused c p h =
-      let k : number ≡ 0 → ⊥ = λ z. h (e ∙ z) in
-      record {
-        answer = λ i. record { number = e i; card = (p ∙ sym (if-refused number (cardIn l) noCard k)) i };
-        ground-exit = sym (if-refused number (groundIn l) ground k);
-        state-exit = sym (if-refused number (stateIn l) state k);
-      }
+  refused c p h = answered c ground state (p ∙ sym (if-refused r (cardIn l) noCard h)) (sym (if-refused r (groundIn l) ground h)) (sym (if-refused r (stateIn l) state h))
 
-  pub accepted : (c : Card) (g s : List ℤ) → c ≡ cardIn l → g ≡ groundIn l → s ≡ stateIn l → r ≡ 0 → ReadContract l ground state (record { number = 0; card = c }) g s
-  unfolding readAnswer readGroundList readStateList
-  accepted c g s p q w z =
-      let k : number ≡ 0 = sym e ∙ z in
-      record {
-        answer = λ i. record { number = sym k i; card = (p ∙ sym (if-done number (cardIn l) noCard k)) i };
-        ground-exit = q ∙ sym (if-done number (groundIn l) ground k);
-        state-exit = w ∙ sym (if-done number (stateIn l) state k);
-      }
+  -- lists that are renewed from a draft that begins with the sheet's ground and state, if the number is 0
+  module _ (d : List ℤ) (h : r ≡ 0 → take (length ground + length state) d ≡ groundIn l ++ stateIn l) where
+    sized : r ≡ 0 → length (groundIn l) ≡ length ground
+    sized z = length-ground-in l ∙ sym (read-facts l (length ground) (length state) (sym e ∙ z) .sizes .ground)
+
+    pub ground-renewed : renewed r d ground ≡ ifDone r (groundIn l) ground
+    unfolding renewed
+    ground-renewed = if-same r ground (λ z. first-part d (groundIn l) (stateIn l) (length ground) (length state) (h z) (sized z))
+
+    pub state-renewed : length ground ≤ length d → renewed r (drop (length ground) d) state ≡ ifDone r (stateIn l) state
+    unfolding renewed
+    state-renewed k = if-same r state (λ z. second-part d (groundIn l) (stateIn l) (length ground) (length state) (h z) (sized z) k)

@@ -20,6 +20,11 @@ pub record Ready (l : List ℕ) (n : ℕ) (words : List ℤ) : Type 0 where
   pub within : n ≤ length words
   pub front : frontNumber l n (length words - n) ≡ 0
 
+-- a sheet whose values decide for lists of n and m words, and room for so many in a draft
+pub record Decided (l : List ℕ) (n m : ℕ) (draft : List ℤ) : Type 0 where
+  pub front : frontNumber l n m ≡ 0
+  pub room : n + m ≤ length draft
+
 -- room in a draft for n words, if a sheet can have so many: that of 128 by 128 cells has 65,792
 pub record Room (n : ℕ) (draft : List ℤ) : Type 0 where
   pub room : n ≤ 65792 → n ≤ length draft

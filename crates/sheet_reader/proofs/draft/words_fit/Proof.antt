@@ -9,8 +9,8 @@ use Rattle.rules.specs.Site.{valuesFit, readGround, readState}
 use Rattle.laws.specs.Parts.{back-is}
 use Rattle.sheet_reader.proofs.Reading.{joined-sized}
 use borrow.Author.Needs.{needs}
-use Rattle.sheet_reader.proofs.words_fit.Statement.{statement}
-use Rattle.sheet_reader.proofs.words_fit.Tie as tie
+use Rattle.sheet_reader.proofs.draft.words_fit.Statement.{statement}
+use Rattle.sheet_reader.proofs.draft.words_fit.Tie as tie
 
 slice-aggregate-values-fit : tie.Need-slice-aggregate-values-fit
 slice-aggregate-values-fit c =

@@ -3,8 +3,8 @@ use mathlib.Core.Path.{_∙_}
 use native.Mathlib.Omega.{arith}
 use Rattle.sheet_reader.proofs.Reading.{ready-long, ready-ground, ready-words, ready-joined, words-checked}
 use borrow.Author.Needs.{needs}
-use Rattle.sheet_reader.proofs.read_words.Statement.{statement}
-use Rattle.sheet_reader.proofs.read_words.Tie as tie
+use Rattle.sheet_reader.proofs.draft.read_words.Statement.{statement}
+use Rattle.sheet_reader.proofs.draft.read_words.Tie as tie
 
 get-words-requires : tie.Need-get-words-requires
 get-words-requires c κs = let a = c .before .before in ready-long (a .args .sheet .now) (a .args .n) (a .args .words .now) (a .pre)
