@@ -10,7 +10,7 @@ use lib.ListN.{length, drop, length-append}
 use lib.Dec.{leb}
 use borrow.Author.Tests.{le-leb, lt-leb, leb-true}
 use Rattle.rules.specs.declared.Card.{Card}
-use Rattle.rules.specs.Site.{cardFits, lengthsFit, valuesFit, readGround, readState, check}
+use Rattle.rules.specs.Site.{cardFits, lengthsFit, valuesFit, readGround, readState, firstOf, check}
 use Rattle.rules.specs.Sheet.{bytesOf, wordsBytes, sheetSize, header, sheetOf}
 use Rattle.rules.specs.Calls.{writeNumber, writeAnswer, writeBytes}
 use Rattle.rules.specs.Contracts.{WriteContract}
@@ -37,10 +37,20 @@ module _ (c : Card) (g s : List ℤ) (room r : ℕ) (e : r ≡ check c g s) wher
     unfolding writeNumber
     write-0 h = sym (first-passed (check c g s) _ (sym e ∙ z) ∙ ap (λ (b : Bool). cond b 0 8) (le-leb (sheetSize c) room h))
 
+-- where the check's number is not 1, the card fits
+pub card-passed : (c : Card) (g s : List ℤ) (r : ℕ) → r ≡ check c g s → (r ≡ 1 → ⊥) → cardFits c ≡ true
+unfolding check firstOf
+card-passed c g s r e h = go (cardFits c) (λ z. h (e ∙ z))
+  where
+    go : (b : Bool) → (firstOf b (lengthsFit c g s) (valuesFit c (readGround c g) (readState c s)) ≡ 1 → ⊥) → b ≡ true
+    go true h = refl
+    go false h = absurd (h refl)
+
 -- a site that is written, and has room
 pub record Clean (c : Card) (g s : List ℤ) (room : ℕ) : Type 0 where
   pub card : cardFits c ≡ true
   pub size : sheetSize c ≡ 19 + (4 * length g + 4 * length s)
+  pub longer : length g ≤ length s
   pub room-for : sheetSize c ≤ room
 
 pub clean : (c : Card) (g s : List ℤ) (room : ℕ) → writeNumber c g s room ≡ 0 → Clean c g s room
@@ -49,7 +59,7 @@ clean c g s room e =
     let p = both-passed (check c g s) (cond (leb (sheetSize c) room) 0 8) e in
     let q = apart (cardFits c) (lengthsFit c g s) (valuesFit c (readGround c g) (readState c s)) (p .0) in
     let n = length-facts c g s (q .lengths) in
-    record { card = q .card; size = size-words c ∙ omega (arith, n .ground, n .state); room-for = fitting (leb (sheetSize c) room) refl (p .1) }
+    record { card = q .card; size = size-words c ∙ omega (arith, n .ground, n .state); longer = omega (arith, n .ground, n .heights); room-for = fitting (leb (sheetSize c) room) refl (p .1) }
   where
     fitting : (b : Bool) → leb (sheetSize c) room ≡ b → _≡_ {A = ℕ} (cond b 0 8) 0 → sheetSize c ≤ room
     fitting true q z = leb-true (sheetSize c) room q
