@@ -23,7 +23,7 @@ fn play_number(input: &[u8]) -> u32
     if own != 0 {
         return own;
     }
-    let card = sheet_reader::card_in(input);
+    let card = sheet::card_in(input);
     if (card.columns <= 32) & (card.rows <= 32) {
         return 0;
     }
@@ -73,7 +73,7 @@ fn print_cut(
     requires { ⌜ Uncut (now sheet) (now ground) (now state) (now scratch) (length (now page)) ⌝ }
     ensures { λ r. ⌜ Appended (played (now (sheet .entry))) 0 r (now (page .entry)) (now (page .exit)) ⌝ }
 {
-    let card = sheet_reader::card_in(sheet);
+    let card = sheet::card_in(sheet);
     let cells = site::cells(card);
     let words = site::state_length(card);
     print_sheet(

@@ -1,17 +1,8 @@
-// What the reader and the writer of a site sheet share: its size.
-ghost use mathlib.Core.Path.{_≡_};
-ghost use mathlib.Core.Bool.{true};
-ghost use Prim.Native.Nat.{_≤_};
-ghost use Rattle.rules.specs.Site.{cardFits};
-ghost use Rattle.rules.specs.Sheet.{sheetSize};
-use rules::Card;
+// A site sheet before its words: how long it is, its head and its card, and what they say to its reader.
+mod front;
+mod size;
 
-// How many bytes the sheet of a card has.
-pub fn sheet_size(card: Card) -> usize
-    requires { ⌜ cardFits card ≡ true ⌝ }
-    ensures { λ r. ⌜ (r ≡ sheetSize card) × (r ≤ 263187) ⌝ }
-{
-    let columns = card.columns as usize;
-    let rows = card.rows as usize;
-    19 + 16 * (rows * columns) + 4 * columns + 4 * rows
-}
+pub use front::card_in;
+pub use front::front_number;
+pub use front::head_fits;
+pub use size::sheet_size;

@@ -21,94 +21,36 @@ use Rattle.laws.specs.Outcomes.{if-refused, if-same}
 use Rattle.laws.specs.Parts.{back-length}
 use Rattle.laws.specs.Words.{in-add}
 use Rattle.laws.specs.Sheets.{size-words, size-facts, read-facts, length-ground-in}
-use Rattle.sheet_reader.specs.Front.{frontNumber, sheetValuesFit}
+use Rattle.sheet.specs.Front.{frontNumber, Front, front-facts}
+use Rattle.sheet_reader.specs.Values.{sheetValuesFit}
 use Rattle.sheet_reader.specs.Lent.{Joined, Ready, Decided, Room}
 
--- ---- the head
+-- ---- where the values decide
 
-pub head-short : (l : List ℕ) → length l < 19 → false ≡ headFits l
-unfolding headFits
-head-short l h = rw (lt-leb 19 (length l) h)
+module _ (l : List ℕ) (n m : ℕ) (f : Front l n m) where
+  pub number-3 : sheetValuesFit l ≡ false → 3 ≡ readNumber l n m
+  unfolding readNumber firstOf sheetValuesFit
+  number-3 v = rw (f .head, f .card, f .lengths, v)
 
-pub head-long : (l : List ℕ) (named version : ℕ) → 19 ≤ length l → named ≡ numberIn 4 l → version ≡ numberIn 1 (drop 4 l) → (eqb named (length l) && eqb version 1) ≡ headFits l
-unfolding headFits
-head-long l named version h p q = rw (le-leb 19 (length l) h, p, q)
+  pub number-0 : sheetValuesFit l ≡ true → 0 ≡ readNumber l n m
+  unfolding readNumber firstOf sheetValuesFit
+  number-0 v = rw (f .head, f .card, f .lengths, v)
 
--- ---- before the values
+  -- how many bytes and words there are
+  pub long : length l ≡ 19 + 4 * (n + m)
+  long = let s = size-facts l n m (f .lengths) in s .sized ∙ size-words (cardIn l) ∙ omega arith
 
-module _ (l : List ℕ) (n m : ℕ) where
-  pub front-9 : headFits l ≡ false → 9 ≡ frontNumber l n m
-  unfolding frontNumber
-  front-9 h = rw h
+  pub few : n + m ≤ 65792
+  few = let s = size-facts l n m (f .lengths) in let r = card-facts (cardIn l) (f .card) in omega arith
 
-  module _ (h : headFits l ≡ true) where
-    pub front-1 : cardFits (cardIn l) ≡ false → 1 ≡ frontNumber l n m
-    unfolding frontNumber firstOf
-    front-1 k = rw (h, k)
-
-    module _ (k : cardFits (cardIn l) ≡ true) where
-      pub front-2 : sheetLengthsFit l n m ≡ false → 2 ≡ frontNumber l n m
-      unfolding frontNumber firstOf
-      front-2 j = rw (h, k, j)
-
-      pub front-0 : sheetLengthsFit l n m ≡ true → 0 ≡ frontNumber l n m
-      unfolding frontNumber firstOf
-      front-0 j = rw (h, k, j)
-
-  -- ---- with the values
-
-  pub record Front : Type 0 where
-    pub head : headFits l ≡ true
-    pub card : cardFits (cardIn l) ≡ true
-    pub lengths : sheetLengthsFit l n m ≡ true
-
-  pub front-facts : frontNumber l n m ≡ 0 → Front
-  unfolding frontNumber firstOf
-  front-facts e = go (headFits l) (cardFits (cardIn l)) (sheetLengthsFit l n m) refl refl refl e
-    where
-      go : (a b d : Bool) → headFits l ≡ a → cardFits (cardIn l) ≡ b → sheetLengthsFit l n m ≡ d → cond a (firstOf b d true) 9 ≡ 0 → Front
-      go false b d p q r e = absurd (suc-ne-zero 8 e)
-      go true false d p q r e = absurd (suc-ne-zero 0 e)
-      go true true false p q r e = absurd (suc-ne-zero 1 e)
-      go true true true p q r e = record { head = p; card = q; lengths = r }
-
-  pub front-refused : (frontNumber l n m ≡ 0 → ⊥) → frontNumber l n m ≡ readNumber l n m
-  unfolding frontNumber readNumber firstOf
-  front-refused h = go (headFits l) (cardFits (cardIn l)) (sheetLengthsFit l n m) _ h
-    where
-      go : (a b d v : Bool) → (cond a (firstOf b d true) 9 ≡ 0 → ⊥) → cond a (firstOf b d true) 9 ≡ cond a (firstOf b d v) 9
-      go false b d v h = refl
-      go true false d v h = refl
-      go true true false v h = refl
-      go true true true v h = absurd (h refl)
-
-  pub front-told : (k : ℕ) → suc k ≡ frontNumber l n m → suc k ≡ readNumber l n m
-  front-told k e = e ∙ front-refused (λ z. suc-ne-zero k (e ∙ z))
-
-  module _ (f : Front) where
-    pub number-3 : sheetValuesFit l ≡ false → 3 ≡ readNumber l n m
-    unfolding readNumber firstOf sheetValuesFit
-    number-3 v = rw (f .head, f .card, f .lengths, v)
-
-    pub number-0 : sheetValuesFit l ≡ true → 0 ≡ readNumber l n m
-    unfolding readNumber firstOf sheetValuesFit
-    number-0 v = rw (f .head, f .card, f .lengths, v)
-
-    -- how many bytes and words there are
-    pub long : length l ≡ 19 + 4 * (n + m)
-    long = let s = size-facts l n m (f .lengths) in s .sized ∙ size-words (cardIn l) ∙ omega arith
-
-    pub few : n + m ≤ 65792
-    few = let s = size-facts l n m (f .lengths) in let r = card-facts (cardIn l) (f .card) in omega arith
-
-    -- the sheet's words are its ground and its state
-    pub joined : wordsIn (n + m) (drop 19 l) ≡ groundIn l ++ stateIn l
-    unfolding groundIn stateIn
-    joined =
-        let s = size-facts l n m (f .lengths) in
-        in-add n m (drop 19 l)
-        ∙ ap (λ (r : List ℕ). wordsIn n (drop 19 l) ++ wordsIn m r) (drop-drop (4 * n) 19 l)
-        ∙ ap₂ (λ (i j : ℕ). wordsIn i (drop 19 l) ++ wordsIn j (drop (19 + 4 * i) l)) (s .ground) (s .state)
+  -- the sheet's words are its ground and its state
+  pub joined : wordsIn (n + m) (drop 19 l) ≡ groundIn l ++ stateIn l
+  unfolding groundIn stateIn
+  joined =
+      let s = size-facts l n m (f .lengths) in
+      in-add n m (drop 19 l)
+      ∙ ap (λ (r : List ℕ). wordsIn n (drop 19 l) ++ wordsIn m r) (drop-drop (4 * n) 19 l)
+      ∙ ap₂ (λ (i j : ℕ). wordsIn i (drop 19 l) ++ wordsIn j (drop (19 + 4 * i) l)) (s .ground) (s .state)
 
 -- ---- the parts of a draft that begins with g and then s
 

@@ -7,7 +7,7 @@ use mathlib.Core.Bool.{true}
 use lib.ListN.{length}
 use Rattle.rules.specs.declared.Card.{Card}
 use Rattle.rules.specs.Site.{cells, stateLength, cardFits}
-use Rattle.sheet_reader.specs.Front.{frontNumber}
+use Rattle.sheet.specs.Front.{frontNumber}
 
 -- the n words of a card's ground, and its state behind them
 pub record Joined (c : Card) (words : List ℤ) (n : ℕ) : Type 0 where

@@ -6,8 +6,7 @@ ghost use lib.ListN.{length, take, drop};
 ghost use Rattle.rules.specs.Site.{valuesFit, readGround, readState};
 ghost use Rattle.rules.specs.Sheet.{groundIn, stateIn, readNumber};
 ghost use Rattle.sheet_reader.specs.Lent.{Joined, Ready, Decided};
-ghost use Rattle.sheet_reader.specs.Front.{sheetValuesFit};
-use crate::front;
+ghost use Rattle.sheet_reader.specs.Values.{sheetValuesFit};
 use rules::Card;
 
 // A draft for the words of the largest sheet, of 128 by 128 cells.
@@ -39,7 +38,7 @@ fn read_words(sheet: &[u8], n: usize, words: &mut [i32]) -> bool
     ensures words { λ _. ⌜ now (words .exit) ≡ groundIn (now (sheet .entry)) ++ stateIn (now (sheet .entry)) ⌝ }
 {
     numbers::get_words(sheet, 19, words);
-    let card = front::card_in(sheet);
+    let card = sheet::card_in(sheet);
     words_fit(card, words, n)
 }
 

@@ -4,23 +4,22 @@ ghost use lib.ListN.{length};
 ghost use Rattle.rules.specs.Site.{cells, stateLength};
 ghost use Rattle.rules.specs.Sheet.{cardIn, readNumber};
 use crate::draft;
-use crate::front;
 
 // The number, over a draft.
 fn own_number_over(sheet: &[u8], words: &mut [i32]) -> u32
     requires { ⌜ length (now words) ≡ 65792 ⌝ }
     ensures { λ r. ⌜ r ≡ readNumber (now (sheet .entry)) (cells (cardIn (now (sheet .entry)))) (stateLength (cardIn (now (sheet .entry)))) ⌝ }
 {
-    if !front::head_fits(sheet) {
+    if !sheet::head_fits(sheet) {
         return 9;
     }
-    let card = front::card_in(sheet);
+    let card = sheet::card_in(sheet);
     if !site::card_fits(card) {
         return 1;
     }
     let n = site::cells(card);
     let m = site::state_length(card);
-    let early = front::front_number(sheet, n, m);
+    let early = sheet::front_number(sheet, n, m);
     if early != 0 {
         return early;
     }

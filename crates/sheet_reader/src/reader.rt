@@ -7,11 +7,11 @@ ghost use Rattle.rules.specs.Sheet.{cardIn, noCard};
 ghost use Rattle.rules.specs.Contracts.{ReadContract};
 ghost use Rattle.sheet_reader.specs.Lent.{Room};
 use crate::draft;
-use crate::front;
 use rules::Card;
 use rules::Heard;
 
-fn no_card() -> Card
+// The card of a sheet that is refused.
+pub fn no_card() -> Card
     ensures { λ r. ⌜ r ≡ noCard ⌝ }
 {
     Card {
@@ -32,7 +32,7 @@ fn card_with(number: u32, sheet: &[u8]) -> Card
     if number != 0 {
         return no_card();
     }
-    front::card_in(sheet)
+    sheet::card_in(sheet)
 }
 
 // The reader over a draft.
@@ -41,7 +41,7 @@ fn read_over(sheet: &[u8], ground: &mut [i32], state: &mut [i32], draft: &mut [i
     ensures { λ r. ⌜ ReadContract (now (sheet .entry)) (now (ground .entry)) (now (state .entry)) r (now (ground .exit)) (now (state .exit)) ⌝ }
 {
     let n = ground.len();
-    let early = front::front_number(sheet, n, state.len());
+    let early = sheet::front_number(sheet, n, state.len());
     if early != 0 {
         let card = no_card();
         return Heard {

@@ -5,7 +5,7 @@ use borrow.Author.Tests.{not-true, not-false}
 use Rattle.rules.specs.Site.{cells, stateLength, cardFits}
 use Rattle.rules.specs.Sheet.{cardIn, headFits, readNumber}
 use Rattle.laws.specs.Sheets.{head-facts}
-use Rattle.sheet_reader.proofs.Reading.{front-9, front-1, front-told, front-refused}
+use Rattle.sheet.specs.Front.{front-9, front-1, front-told, front-refused}
 use borrow.Author.Needs.{needs}
 use Rattle.sheet_reader.proofs.own.own_number_over.Statement.{statement}
 use Rattle.sheet_reader.proofs.own.own_number_over.Tie as tie

@@ -8,9 +8,9 @@ use lib.ListN.{length}
 use Rattle.lists.specs.Renewed.{renewed}
 use Rattle.laws.specs.Parts.{back-is, back-length}
 use Rattle.laws.specs.Sheets.{head-facts}
-use Rattle.sheet_reader.specs.Front.{frontNumber}
+use Rattle.sheet.specs.Front.{frontNumber, front-facts, front-refused}
 use Rattle.sheet_reader.specs.Lent.{Decided}
-use Rattle.sheet_reader.proofs.Reading.{front-facts, front-refused, decides, refused, answered, ground-renewed, state-renewed}
+use Rattle.sheet_reader.proofs.Reading.{decides, refused, answered, ground-renewed, state-renewed}
 use borrow.Author.Needs.{needs}
 use Rattle.sheet_reader.proofs.reader.read_over.Statement.{statement}
 use Rattle.sheet_reader.proofs.reader.read_over.Tie as tie

@@ -5,8 +5,8 @@ use Rattle.rules.specs.Sheet.{sheetSize}
 use Rattle.laws.specs.Facts.{card-facts}
 use Rattle.laws.specs.Sheets.{size-high}
 use borrow.Author.Needs.{needs}
-use Rattle.sheet.proofs.sheet_size.Statement.{statement}
-use Rattle.sheet.proofs.sheet_size.Tie as tie
+use Rattle.sheet.proofs.size.sheet_size.Statement.{statement}
+use Rattle.sheet.proofs.size.sheet_size.Tie as tie
 
 cast-columns : tie.Need-cast-columns
 cast-columns c = search needs

@@ -3,7 +3,8 @@ ghost use mathlib.Core.Path.{_≡_};
 ghost use Prim.Native.Nat.{_≤_};
 ghost use lib.ListN.{length};
 ghost use Rattle.rules.specs.Sheet.{cardIn, headFits};
-ghost use Rattle.sheet_reader.specs.Front.{frontNumber};
+ghost use Rattle.sheet.specs.Front.{frontNumber};
+use crate::size;
 use rules::Card;
 
 // Whether the sheet has a whole header, names its own length and is of version 1.
@@ -50,7 +51,7 @@ pub fn front_number(sheet: &[u8], n: usize, m: usize) -> u32
     if !site::card_fits(card) {
         return 1;
     }
-    let fits = (sheet.len() == sheet::sheet_size(card))
+    let fits = (sheet.len() == size::sheet_size(card))
         & (n == site::cells(card))
         & (m == site::state_length(card));
     if !fits {

@@ -7,10 +7,10 @@ use borrow.Author.Tests.{not-true, not-false}
 use Rattle.rules.specs.Site.{cardFits}
 use Rattle.rules.specs.Sheet.{cardIn, headFits, sheetLengthsFit}
 use Rattle.laws.specs.Sheets.{head-facts}
-use Rattle.sheet_reader.proofs.Reading.{front-9, front-1, front-2, front-0}
+use Rattle.sheet.specs.Front.{front-9, front-1, front-2, front-0}
 use borrow.Author.Needs.{needs}
-use Rattle.sheet_reader.proofs.front.front_number.Statement.{statement}
-use Rattle.sheet_reader.proofs.front.front_number.Tie as tie
+use Rattle.sheet.proofs.front.front_number.Statement.{statement}
+use Rattle.sheet.proofs.front.front_number.Tie as tie
 
 -- what is known at each place where a test was passed
 head : (e : tie.Else1) → headFits (e .before .before .before .args .sheet .now) ≡ true

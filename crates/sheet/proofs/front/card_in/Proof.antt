@@ -1,8 +1,8 @@
 -- `card_in`: field by field.
 use Rattle.rules.specs.Sheet.{cardIn}
 use borrow.Author.Needs.{needs}
-use Rattle.sheet_reader.proofs.front.card_in.Statement.{statement}
-use Rattle.sheet_reader.proofs.front.card_in.Tie as tie
+use Rattle.sheet.proofs.front.card_in.Statement.{statement}
+use Rattle.sheet.proofs.front.card_in.Tie as tie
 
 number-requires : tie.Need-number-requires
 number-requires c κs = search needs

@@ -1,8 +1,8 @@
 -- `head_fits`: a sheet of at least 19 bytes has the fields that the definition reads.
-use Rattle.sheet_reader.proofs.Reading.{head-short, head-long}
+use Rattle.sheet.proofs.Heads.{head-short, head-long}
 use borrow.Author.Needs.{needs}
-use Rattle.sheet_reader.proofs.front.head_fits.Statement.{statement}
-use Rattle.sheet_reader.proofs.front.head_fits.Tie as tie
+use Rattle.sheet.proofs.front.head_fits.Statement.{statement}
+use Rattle.sheet.proofs.front.head_fits.Tie as tie
 
 returns : tie.Need-returns
 returns c = head-short _ (c .if1 .taken)
