@@ -1,13 +1,14 @@
 -- The sheet there and back by the two calls: a sheet that was read writes back as the same bytes, and a written sheet reads back as the same card, ground and state.
 -- Every input has its outcome here. `round_trips` has the two functions that make these calls; their contracts are the records below.
-use Prim.Native.Nat.{ℕ}
-use mathlib.Core.Path.{_≡_, sym, ap, ap₂, _∙_}
+use Prim.Native.Nat.{ℕ, _≤_}
+use mathlib.Core.Path.{_≡_, sym, ap, ap₂, _∙_, subst⁻¹}
 use mathlib.Core.Bool.{cond, _&&_}
 use mathlib.Core.List.{List, _++_}
 use lib.IntN.{ℤ}
 use lib.ListN.{length, take, drop}
 use lib.Seq.{take-at}
 use lib.Dec.{leb, eqb}
+use borrow.Author.Tests.{leb-true}
 use Rattle.rules.specs.declared.Card.{Card}
 use Rattle.rules.specs.declared.Heard.{Heard}
 use Rattle.rules.specs.declared.Wrote.{Wrote}
@@ -17,6 +18,7 @@ use Rattle.rules.specs.Calls.{readAnswer, readGroundList, readStateList, writeN
 use Rattle.rules.specs.Contracts.{ReadContract, WriteContract}
 use Rattle.laws.specs.Facts.{check-facts}
 use Rattle.laws.specs.Outcomes.{first-refused, first-passed, both-passed, if-done, if-refused}
+use Rattle.laws.specs.Sheets.{passed}
 use Rattle.promises.specs.ThereAndBack.{card-back, ground-back, state-back, number-back, sheet-size}
 use Rattle.promises.specs.Sheets.{IsSheetOf, read-is-sheet}
 
@@ -128,29 +130,35 @@ module _ (c : Card) (g s : List ℤ) (bytes : List ℕ) (w : Wrote) (o : List �
     wrote : writeNumber c g s (length bytes) ≡ 0
     wrote = sym number-written ∙ z
 
-    passed : check c g s ≡ 0
+    checked : check c g s ≡ 0
     unfolding writeNumber
-    passed = both-passed (check c g s) _ wrote .0
+    checked = both-passed (check c g s) _ wrote .0
 
-    pub size-written : w .size ≡ sheetSize c
+    size-written : w .size ≡ sheetSize c
     unfolding writeAnswer
     size-written = ap (λ (x : Wrote). x .size) (q .answer) ∙ if-done _ (sheetSize c) 0 wrote
+
+    pub size-room : w .size ≤ length bytes
+    unfolding writeNumber
+    size-room =
+        let f = passed (leb (sheetSize c) (length bytes)) 0 7 (both-passed (check c g s) _ wrote .1) .0 in
+        subst⁻¹ (λ (n : ℕ). n ≤ length bytes) size-written (leb-true (sheetSize c) (length bytes) f)
 
     -- the bytes that were written are the site's sheet
     is-written : take (w .size) o ≡ sheetOf c g s
     unfolding writeBytes
     is-written =
         ap₂ (λ (n : ℕ) (x : List ℕ). take n x) size-written (q .bytes-exit ∙ if-done _ (sheetOf c g s ++ drop (sheetSize c) bytes) bytes wrote)
-        ∙ take-at (sheetOf c g s) (drop (sheetSize c) bytes) (sheetSize c) (sheet-size c g s (check-facts c g s passed))
+        ∙ take-at (sheetOf c g s) (drop (sheetSize c) bytes) (sheetSize c) (sheet-size c g s (check-facts c g s checked))
 
     heard-back : readNumber (take (w .size) o) (length ground) (length state) ≡ again
     unfolding siteBackNumber
-    heard-back = ap (λ (l : List ℕ). readNumber l (length ground) (length state)) is-written ∙ number-back c g s (check-facts c g s passed) passed (length ground) (length state) ∙ sym (first-passed _ _ wrote)
+    heard-back = ap (λ (l : List ℕ). readNumber l (length ground) (length state)) is-written ∙ number-back c g s (check-facts c g s checked) checked (length ground) (length state) ∙ sym (first-passed _ _ wrote)
 
     pub write-then-read : (h : Heard) (g′ s′ : List ℤ) → ReadContract (take (w .size) o) ground state h g′ s′ → SiteBack c g s bytes ground state h o g′ s′
     unfolding readAnswer readGroundList readStateList
     write-then-read h g′ s′ r =
-        let f = check-facts c g s passed in
+        let f = check-facts c g s checked in
         let card : cardIn (take (w .size) o) ≡ c = ap cardIn is-written ∙ card-back c g s f in
         let gr : groundIn (take (w .size) o) ≡ g = ap groundIn is-written ∙ ground-back c g s f in
         let st : stateIn (take (w .size) o) ≡ s = ap stateIn is-written ∙ state-back c g s f in
