@@ -1,18 +1,16 @@
 -- The reader's numbers and outcomes, as its functions come to them.
-use Prim.Native.Nat.{ℕ, suc, _+_, _*_, _-_, _<_, _≤_}
-use mathlib.Core.Path.{_≡_, refl, sym, ap, ap₂, _∙_}
-use mathlib.Core.Bool.{Bool, true, false, cond, _&&_}
+use Prim.Native.Nat.{ℕ, _+_, _*_, _-_, _≤_}
+use mathlib.Core.Path.{_≡_, sym, ap, ap₂, _∙_}
+use mathlib.Core.Bool.{true, false}
 use mathlib.Core.List.{List, _++_}
-use native.Mathlib.Nat.{suc-ne-zero}
 use native.Mathlib.Omega.{arith}
 use lib.IntN.{ℤ}
 use lib.ListN.{length, take, drop}
 use lib.Seq.{take-take, take-add, take-at, drop-at, drop-drop, length-take-le}
-use lib.Dec.{eqb}
-use borrow.Author.Tests.{le-leb, lt-leb, eq-eqb}
+use borrow.Author.Tests.{eq-eqb}
 use Rattle.rules.specs.declared.Card.{Card}
 use Rattle.rules.specs.Site.{stateLength, cardFits, lengthsFit, valuesFit, readGround, readState, firstOf, ifDone}
-use Rattle.rules.specs.Sheet.{numberIn, wordsIn, cardIn, groundIn, stateIn, headFits, sheetLengthsFit, readNumber, noCard}
+use Rattle.rules.specs.Sheet.{wordsIn, cardIn, groundIn, stateIn, readNumber, noCard}
 use Rattle.rules.specs.Calls.{readAnswer, readGroundList, readStateList}
 use Rattle.rules.specs.Contracts.{ReadContract}
 use Rattle.lists.specs.Renewed.{renewed}
