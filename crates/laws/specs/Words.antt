@@ -8,6 +8,7 @@ use native.Mathlib.Omega.{arith}
 use lib.IntN.{ℤ, pos, negsuc}
 use lib.ListN.{length, take, drop, getD, length-append, length-drop}
 use lib.Seq.{take-suc, take-add, drop-drop, drop-at}
+use borrow.Author.Tests.{lt-ltb, le-ltb, le-leb}
 use mir.Syntax.{w32}
 use mir.Val.{SFits, toZ, ofZ}
 use mir.ValLaws.{toZ-ofZ, ofZ-toZ, ofZ-fits, toZ-fits}
@@ -16,26 +17,26 @@ use Rattle.laws.specs.Bytes.{bytes-drop, length-bytes, number-bytes, byt
 
 -- ---- a word and its bits, which are the machine's
 
-bits-is : (z : ℤ) → bitsOf z ≡ ofZ w32 z
+pub bits-is : (z : ℤ) → SFits w32 z → bitsOf z ≡ ofZ w32 z
 unfolding bitsOf
-bits-is (pos n) = refl
-bits-is (negsuc n) = refl
+bits-is (pos n) f = rw (le-leb 0 n (omega arith))
+bits-is (negsuc n) f = let h : n < 2147483648 = f .sfits in rw (le-ltb 4294967296 (suc n) (omega arith))
 
-pub value-is : (b : ℕ) → valueOf b ≡ toZ w32 b
+pub value-is : (b : ℕ) → b < 4294967296 → valueOf b ≡ toZ w32 b
 unfolding valueOf
-value-is b = refl
-
-value-bits : (z : ℤ) → SFits w32 z → valueOf (bitsOf z) ≡ z
-value-bits z f = value-is (bitsOf z) ∙ ap (toZ w32) (bits-is z) ∙ toZ-ofZ w32 z f
-
-bits-value : (b : ℕ) → b < 4294967296 → bitsOf (valueOf b) ≡ b
-bits-value b h = bits-is (valueOf b) ∙ ap (ofZ w32) (value-is b) ∙ ofZ-toZ w32 b (record { fits = h })
-
-bits-lt : (z : ℤ) → SFits w32 z → bitsOf z < 4294967296
-bits-lt z f = subst⁻¹ (λ (n : ℕ). n < 4294967296) (bits-is z) (ofZ-fits w32 z f .fits)
+value-is b h = rw (lt-ltb b 4294967296 h)
 
 pub value-fits : (b : ℕ) → b < 4294967296 → SFits w32 (valueOf b)
-value-fits b h = subst⁻¹ (SFits w32) (value-is b) (toZ-fits w32 b (record { fits = h }))
+value-fits b h = subst⁻¹ (SFits w32) (value-is b h) (toZ-fits w32 b (record { fits = h }))
+
+bits-lt : (z : ℤ) → SFits w32 z → bitsOf z < 4294967296
+bits-lt z f = subst⁻¹ (λ (n : ℕ). n < 4294967296) (bits-is z f) (ofZ-fits w32 z f .fits)
+
+value-bits : (z : ℤ) → SFits w32 z → valueOf (bitsOf z) ≡ z
+value-bits z f = value-is (bitsOf z) (bits-lt z f) ∙ ap (toZ w32) (bits-is z f) ∙ toZ-ofZ w32 z f
+
+bits-value : (b : ℕ) → b < 4294967296 → bitsOf (valueOf b) ≡ b
+bits-value b h = bits-is (valueOf b) (value-fits b h) ∙ ap (ofZ w32) (value-is b h) ∙ ofZ-toZ w32 b (record { fits = h })
 
 -- ---- words as bytes
 

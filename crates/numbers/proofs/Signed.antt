@@ -1,17 +1,19 @@
 -- A signed 32-bit number made of its bits by differences, and its bits of it. The code reads a signed local z as `toZ w32 (ofZ w32 z)`.
 use Prim.Native.Nat.{ℕ, zero, suc, _-_, _<_, _≤_}
-use mathlib.Core.Path.{_≡_, refl, ap, _∙_, subst, subst⁻¹}
-use mathlib.Core.Bool.{true, false}
+use mathlib.Core.Path.{_≡_, refl, sym, ap, ap₂, _∙_, subst, subst⁻¹}
+use mathlib.Core.Bool.{Bool, true, false, cond}
 use native.Mathlib.Nat.{zero-add}
 use native.Mathlib.Omega.{arith}
-use lib.Dec.{T}
+use lib.Dec.{T, ltb, leb→le}
 use lib.IntN.{ℤ, pos, negsuc, natAbs, _-ℤ_}
 use lib.Signed.{ltZ, nonNeg, mag}
-use borrow.Author.Tests.{ltb-true, lt-ltb, le-ltb}
+use borrow.Author.Tests.{ltb-true, le-ltb}
 use mir.Syntax.{w32}
 use mir.Val.{Fits, SFits, toZ, ofZ}
-use mir.Facts.{toZ-ofZ}
+use mir.Facts.{toZ-ofZ, toZ-pos}
 use Rattle.rules.specs.Sheet.{bitsOf, valueOf}
+use Rattle.laws.specs.Words.{bits-is, value-is}
+use Rattle.numbers.specs.Asked.{Lowered}
 
 -- -1 - z
 from-pos : (m : ℕ) → negsuc 0 -ℤ pos m ≡ negsuc m
@@ -25,13 +27,11 @@ flip : (z : ℤ) → ltZ z (pos 0) ≡ true → negsuc 0 -ℤ z ≡ pos (mag z)
 flip (pos n) t = let l = ltb-true n 0 t in absurd (omega arith)
 flip (negsuc n) t = from-neg n
 
-neg-bits : (z : ℤ) → ltZ z (pos 0) ≡ true → mag z < 2147483648 → 4294967295 - mag z ≡ bitsOf z
-unfolding bitsOf
-neg-bits (pos n) t b = let l = ltb-true n 0 t in absurd (omega arith)
-neg-bits (negsuc n) t b = omega arith
+neg-bits : (z : ℤ) → ltZ z (pos 0) ≡ true → 4294967295 - mag z ≡ ofZ w32 z
+neg-bits (pos n) t = let l = ltb-true n 0 t in absurd (omega arith)
+neg-bits (negsuc n) t = omega arith
 
-pos-cast : (z : ℤ) → ltZ z (pos 0) ≡ false → SFits w32 z → T (nonNeg z) × Fits w32 (natAbs z) × (natAbs z ≡ bitsOf z)
-unfolding bitsOf
+pos-cast : (z : ℤ) → ltZ z (pos 0) ≡ false → SFits w32 z → T (nonNeg z) × Fits w32 (natAbs z) × (natAbs z ≡ ofZ w32 z)
 pos-cast (pos n) t f = let b : n < 2147483648 = f .sfits in (tt, record { fits = omega arith }, refl)
 pos-cast (negsuc n) t f = absurd (subst T t tt)
 
@@ -57,11 +57,11 @@ module _ (z : ℤ) (f : SFits w32 z) where
         let b : mag z < 2147483648 = f .sfits in
         subst⁻¹ (λ (x : ℤ). T (nonNeg x) × Fits w32 (natAbs x)) again (tt, record { fits = omega arith })
 
-    pub neg-le : natAbs (toZ w32 (ofZ w32 (negsuc 0 -ℤ toZ w32 (ofZ w32 z)))) ≤ 4294967295
-    neg-le = let b : mag z < 2147483648 = f .sfits in subst⁻¹ (λ (n : ℕ). n ≤ 4294967295) size (omega arith)
+    pub neg-low : natAbs (toZ w32 (ofZ w32 (negsuc 0 -ℤ toZ w32 (ofZ w32 z)))) < 2147483648
+    neg-low = subst⁻¹ (λ (n : ℕ). n < 2147483648) size (f .sfits)
 
     pub neg-result : 4294967295 - natAbs (toZ w32 (ofZ w32 (negsuc 0 -ℤ toZ w32 (ofZ w32 z)))) ≡ bitsOf z
-    neg-result = ap (λ (n : ℕ). 4294967295 - n) size ∙ neg-bits z neg (f .sfits)
+    neg-result = ap (λ (n : ℕ). 4294967295 - n) size ∙ neg-bits z neg ∙ sym (bits-is z f)
 
   module _ (t : ltZ (toZ w32 (ofZ w32 z)) (pos 0) ≡ false) where
     not-neg : ltZ z (pos 0) ≡ false
@@ -71,12 +71,29 @@ module _ (z : ℤ) (f : SFits w32 z) where
     up-cast = subst⁻¹ (λ (x : ℤ). T (nonNeg x) × Fits w32 (natAbs x)) (toZ-ofZ f) (pos-cast z not-neg f .0, pos-cast z not-neg f .1)
 
     pub up-result : natAbs (toZ w32 (ofZ w32 z)) ≡ bitsOf z
-    up-result = ap natAbs (toZ-ofZ f) ∙ pos-cast z not-neg f .2
+    up-result = ap natAbs (toZ-ofZ f) ∙ pos-cast z not-neg f .2 ∙ sym (bits-is z f)
 
-module _ (b : ℕ) where
-  high : 2147483648 ≤ b → b < 4294967296 → toZ w32 (4294967295 - b) ≡ pos (4294967295 - b)
-  high l h = rw (lt-ltb (4294967295 - b) 2147483648 (omega arith))
+-- ---- a word less a number
 
-  pub high-away : 2147483648 ≤ b → b < 4294967296 → negsuc 0 -ℤ toZ w32 (4294967295 - b) ≡ valueOf b
-  unfolding valueOf
-  high-away l h = ap (λ (x : ℤ). negsuc 0 -ℤ x) (high l h) ∙ from-pos (4294967295 - b) ∙ rw (le-ltb b 2147483648 l) (ap negsuc (omega arith))
+less-fits : (z : ℤ) (n : ℕ) → SFits w32 z → Lowered z n → SFits w32 (z -ℤ pos n)
+less-fits (pos a) zero f l = let k : a < 2147483648 = f .sfits in record { sfits = omega arith }
+less-fits (pos a) (suc n) f l = go (ltb a (suc n)) (f .sfits)
+  where
+    go : (b : Bool) → a < 2147483648 → SFits w32 (cond b (negsuc (suc n - suc a)) (pos (a - suc n)))
+    go true k = let h = l .small in record { sfits = omega arith }
+    go false k = record { sfits = omega arith }
+less-fits (negsuc a) n f l = let e : a ≡ 0 = omega (arith, leb→le a 0 (l .high)) in rw (e, from-pos n) (record { sfits = l .small })
+
+module _ (z : ℤ) (n : ℕ) (f : SFits w32 z) (l : Lowered z n) where
+  operands : toZ w32 (ofZ w32 z) -ℤ toZ w32 n ≡ z -ℤ pos n
+  operands = ap₂ _-ℤ_ (toZ-ofZ f) (toZ-pos w32 (l .small))
+
+  pub less-sub : SFits w32 (toZ w32 (ofZ w32 z) -ℤ toZ w32 n)
+  less-sub = subst⁻¹ (SFits w32) operands (less-fits z n f l)
+
+  pub less-result : toZ w32 (ofZ w32 (toZ w32 (ofZ w32 z) -ℤ toZ w32 n)) ≡ z -ℤ pos n
+  less-result = toZ-ofZ less-sub ∙ operands
+
+-- -1 less what is left up to 2^32 - 1 is the value of a number from 2^31 on
+pub high-value : (b : ℕ) → 2147483648 ≤ b → b < 4294967296 → negsuc 0 -ℤ pos (4294967295 - b) ≡ valueOf b
+high-value b l h = from-pos (4294967295 - b) ∙ rw (le-ltb b 2147483648 l) (ap negsuc (omega arith)) ∙ sym (value-is b h)

@@ -1,1 +1,1 @@
-pub mod Field
+pub mod Asked

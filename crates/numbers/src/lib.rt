@@ -1,11 +1,12 @@
 // Numbers and words as bytes, the most significant byte first.
 ghost use mathlib.Core.Path.{_≡_};
 ghost use Prim.Native.Nat.{_+_, _*_, _≤_};
+ghost use lib.IntN.{pos, _-ℤ_};
 ghost use lib.ListN.{length, drop};
 ghost use Rattle.rules.specs.Sheet.{numberIn, bytesOf, bitsOf, valueOf, wordsIn, wordsBytes};
 ghost use Rattle.laws.specs.Laid.{laid};
 ghost use Rattle.laws.specs.Swapped.{swapped};
-ghost use Rattle.numbers.specs.Field.{Field};
+ghost use Rattle.numbers.specs.Asked.{Field, Lowered};
 
 fn wide(x: u8) -> u32
     ensures { λ r. ⌜ r ≡ x ⌝ }
@@ -81,14 +82,21 @@ fn bits_of(z: i32) -> u32
     z as u32
 }
 
+// A word less a number.
+fn less(z: i32, n: u32) -> i32
+    requires { ⌜ Lowered z n ⌝ }
+    ensures { λ r. ⌜ r ≡ z -ℤ pos n ⌝ }
+{
+    z - n as i32
+}
+
 fn value_of(b: u32) -> i32
     ensures { λ r. ⌜ r ≡ valueOf b ⌝ }
 {
     if b < 2147483648 {
         return b as i32;
     }
-    let n = (4294967295 - b) as i32;
-    -1 - n
+    less(-1, 4294967295 - b)
 }
 
 // Reads as many words as the list has.

@@ -16,7 +16,7 @@ fn play_number(input: &[u8]) -> u32
     if 16659 < input.len() {
         return 8;
     }
-    let own = sheet::own_number(input);
+    let own = sheet_reader::own_number(input);
     if own != 0 {
         return own;
     }
@@ -54,7 +54,7 @@ fn print_sheet(
     requires { ⌜ Cut (now sheet) (now ground) (now state) (now scratch) (length (now page)) ⌝ }
     ensures { λ r. ⌜ Appended (played (now (sheet .entry))) 0 r (now (page .entry)) (now (page .exit)) ⌝ }
 {
-    let heard = sheet::read_sheet(sheet, ground, state);
+    let heard = sheet_reader::read_sheet(sheet, ground, state);
     let card = heard.card;
     print_run(card, ground, state, scratch, page)
 }
@@ -71,8 +71,8 @@ fn print_cut(
     ensures { λ r. ⌜ Appended (played (now (sheet .entry))) 0 r (now (page .entry)) (now (page .exit)) ⌝ }
 {
     let card = sheet::card_in(sheet);
-    let cells = site::cells(card);
-    let words = site::state_length(card);
+    let cells = card::cells(card);
+    let words = card::state_length(card);
     print_sheet(
         sheet,
         &mut ground[..cells],

@@ -20,6 +20,7 @@ pub mod SwapNumbers
 pub mod StepsWanted
 pub mod ThereAndBack
 pub mod Sheets
+pub mod RoundTrips
 pub mod Edges
 pub mod Searches
 pub mod Texts

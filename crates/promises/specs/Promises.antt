@@ -31,7 +31,8 @@ pub use Rattle.promises.specs.Refused.{step-refused, run-refused, scratc
 -- the depth text's part is empty, and its scratch as lent, exactly if the height is out of range or the scratch is shorter than the text
 pub use Rattle.promises.specs.Texts.{text-refused, text-refused-only}
 -- of the sheet: write, then read, gives the site back; read, then write, gives the bytes back; each site has one sheet
-pub use Rattle.promises.specs.Sheets.{written-reads, read-is-sheet, one-site, one-sheet, write-then-read, read-then-write}
+pub use Rattle.promises.specs.Sheets.{written-reads, read-is-sheet, one-site, one-sheet}
+pub use Rattle.promises.specs.RoundTrips.{write-then-read, not-written, read-then-write, not-read}
 -- the search's list is sound, complete and rising, and as long as lent; at 8 the count is the count needed; every chamber is compared exactly;
 -- a window turned over lists nothing; -0.0 is 0
 pub use Rattle.promises.specs.Searches.{finds, as-long-as-lent, count-at-8, inside-exactly, compared-exactly, lists-nothing, minus-zero-answer, minus-zero-list}

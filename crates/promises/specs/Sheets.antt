@@ -1,22 +1,19 @@
 -- Sheets: a written sheet reads back as the same site, a sheet that was read writes back as the same bytes, and each site has one sheet.
--- First of the definitions, then of the two calls. ThereAndBack.antt has the work.
-use Prim.Native.Nat.{ℕ, _≤_}
-use mathlib.Core.Path.{_≡_, sym, ap, _∙_}
-use mathlib.Core.Bool.{Bool, cond}
-use mathlib.Core.List.{List, _++_}
-use native.Mathlib.Omega.{arith}
+-- Of the definitions; RoundTrips.antt says the same of the two calls. ThereAndBack.antt has the work.
+use Prim.Native.Nat.{ℕ}
+use mathlib.Core.Path.{_≡_, refl, sym, ap, _∙_}
+use mathlib.Core.Bool.{cond, _&&_}
+use mathlib.Core.List.{List}
 use lib.IntN.{ℤ}
-use lib.ListN.{length, take, drop}
-use lib.Seq.{take-at}
-use borrow.Author.Tests.{le-leb}
+use lib.ListN.{length}
+use lib.Dec.{eqb}
+use borrow.Author.Tests.{eq-eqb}
 use Rattle.rules.specs.declared.Card.{Card}
-use Rattle.rules.specs.Site.{check, ifDone}
-use Rattle.rules.specs.Sheet.{Bytes, sheetSize, sheetOf, cardIn, groundIn, stateIn, readNumber, noCard}
-use Rattle.rules.specs.Calls.{readAnswer, readGroundList, readStateList, writeNumber, writeAnswer, writeBytes}
+use Rattle.rules.specs.Site.{check}
+use Rattle.rules.specs.Sheet.{Bytes, sheetOf, cardIn, groundIn, stateIn, readNumber}
 use Rattle.laws.specs.Facts.{check-facts}
-use Rattle.laws.specs.Outcomes.{first-passed, both-passed, if-done}
 use Rattle.laws.specs.Sheets.{read-facts}
-use Rattle.promises.specs.ThereAndBack.{writes-back, read-checks, card-back, ground-back, state-back, number-back, sheet-size}
+use Rattle.promises.specs.ThereAndBack.{writes-back, read-checks, card-back, ground-back, state-back, number-back}
 
 -- ---- there and back
 
@@ -31,7 +28,8 @@ pub record ReadsAs (l : List ℕ) (c : Card) (g s : List ℤ) : Type 0 where
 pub written-reads : (c : Card) (g s : List ℤ) → check c g s ≡ 0 → ReadsAs (sheetOf c g s) c g s
 written-reads c g s e =
     let f = check-facts c g s e in
-    record { number = number-back c g s f e; card = card-back c g s f; ground = ground-back c g s f; state = state-back c g s f }
+    let as-long : _≡_ {A = ℕ} (cond (eqb (length g) (length g) && eqb (length s) (length s)) 0 2) 0 = rw (eq-eqb (length g) (length g) refl, eq-eqb (length s) (length s) refl) in
+    record { number = number-back c g s f e (length g) (length s) ∙ as-long; card = card-back c g s f; ground = ground-back c g s f; state = state-back c g s f }
 
 -- bytes that are read are the sheet of what was read, which passes the first three checks
 pub record IsSheetOf (l : List ℕ) (c : Card) (g s : List ℤ) : Type 0 where
@@ -68,68 +66,3 @@ one-sheet l l′ n m n′ m′ b b′ e e′ q =
     let p′ = read-is-sheet l′ n′ m′ b′ e′ .bytes in
     let s : sheetOf (cardIn l) (groundIn l) (stateIn l) ≡ sheetOf (cardIn l′) (groundIn l′) (stateIn l′) = cc (q .card, q .ground, q .state) in
     sym p ∙ s ∙ p′
-
--- ---- write, then read: whoever writes a site and then reads the bytes that were written, with lists of the site's lengths, has the site
-
--- what the reader answers and leaves in its lists
-pub record Hears (l : List ℕ) (ground state : List ℤ) (c : Card) (g s : List ℤ) : Type 0 where
-  pub answer : readAnswer l ground state ≡ record { number = 0; card = c }
-  pub ground-list : readGroundList l ground state ≡ g
-  pub state-list : readStateList l ground state ≡ s
-
-hears : (l : List ℕ) (ground state : List ℤ) (c : Card) (g s : List ℤ) → length ground ≡ length g → length state ≡ length s → ReadsAs l c g s → Hears l ground state c g s
-unfolding readAnswer readGroundList readStateList
-hears l ground state c g s p q r =
-    let k = readNumber l (length ground) (length state) in
-    let e : k ≡ 0 = cc (p, q, r .number) in
-    record {
-      answer = λ i. record { number = e i; card = (if-done k (cardIn l) noCard e ∙ r .card) i };
-      ground-list = if-done k (groundIn l) ground e ∙ r .ground;
-      state-list = if-done k (stateIn l) state e ∙ r .state;
-    }
-
--- the bytes that a writer wrote
-unfoldable pub written : Card → (g s : List ℤ) (bytes : List ℕ) → List ℕ
-written c g s bytes = take (writeAnswer c g s bytes .size) (writeBytes c g s bytes)
-
-written-is : (c : Card) (g s : List ℤ) (bytes : List ℕ) → writeNumber c g s (length bytes) ≡ 0 → written c g s bytes ≡ sheetOf c g s
-unfolding written writeAnswer writeBytes writeNumber
-written-is c g s bytes e =
-    let k = writeNumber c g s (length bytes) in
-    let f = check-facts c g s (both-passed (check c g s) _ e .0) in
-    let o = if-done k (sheetOf c g s ++ drop (sheetSize c) bytes) bytes e in
-    let z = if-done k (sheetSize c) 0 e in
-    ap (λ (n : ℕ). take n (ifDone k (sheetOf c g s ++ drop (sheetSize c) bytes) bytes)) z
-    ∙ ap (take (sheetSize c)) o
-    ∙ take-at (sheetOf c g s) (drop (sheetSize c) bytes) (sheetSize c) (sheet-size c g s f)
-
-pub write-then-read : (c : Card) (g s : List ℤ) (bytes : List ℕ) (ground state : List ℤ) → writeAnswer c g s bytes .number ≡ 0 → length ground ≡ length g → length state ≡ length s
-    → Hears (written c g s bytes) ground state c g s
-unfolding writeAnswer writeNumber
-write-then-read c g s bytes ground state e p q =
-    rw (written-is c g s bytes e) (hears (sheetOf c g s) ground state c g s p q (written-reads c g s (both-passed (check c g s) _ e .0)))
-
--- ---- read, then write: whoever reads a sheet and then writes what was read, into room enough, has the same bytes in front
-
-pub record Writes (c : Card) (g s : List ℤ) (bytes l : List ℕ) : Type 0 where
-  pub answer : writeAnswer c g s bytes ≡ record { number = 0; size = length l }
-  pub bytes-list : writeBytes c g s bytes ≡ l ++ drop (length l) bytes
-
-writes : (c : Card) (g s : List ℤ) (bytes l : List ℕ) → IsSheetOf l c g s → length l ≤ length bytes → Writes c g s bytes l
-unfolding writeAnswer writeBytes writeNumber
-writes c g s bytes l w h =
-    let k = writeNumber c g s (length bytes) in
-    let n : sheetSize c ≡ length l = sym (sheet-size c g s (check-facts c g s (w .checked))) ∙ ap length (w .bytes) in
-    let e : k ≡ 0 = first-passed (check c g s) _ (w .checked) ∙ ap (λ (b : Bool). cond b 0 8) (le-leb (sheetSize c) (length bytes) (omega arith)) in
-    record {
-      answer = λ i. record { number = e i; size = (if-done k (sheetSize c) 0 e ∙ n) i };
-      bytes-list = if-done k (sheetOf c g s ++ drop (sheetSize c) bytes) bytes e ∙ cc (w .bytes, n);
-    }
-
-pub read-then-write : (l : List ℕ) (ground state : List ℤ) (bytes : List ℕ) → Bytes l → readAnswer l ground state .number ≡ 0 → length l ≤ length bytes
-    → Writes (readAnswer l ground state .card) (readGroundList l ground state) (readStateList l ground state) bytes l
-unfolding readAnswer readGroundList readStateList
-read-then-write l ground state bytes b e h =
-    let k = readNumber l (length ground) (length state) in
-    rw (if-done k (cardIn l) noCard e, if-done k (groundIn l) ground e, if-done k (stateIn l) state e)
-    (writes (cardIn l) (groundIn l) (stateIn l) bytes l (read-is-sheet l (length ground) (length state) b e) h)

@@ -1,21 +1,21 @@
 -- The bytes of a sheet there and back, field by field: proofs of what Sheets.antt states.
 use Prim.Native.Nat.{ℕ, _+_, _*_, _-_, _<_, _≤_}
 use mathlib.Core.Path.{_≡_, refl, sym, ap, ap₂, _∙_}
-use mathlib.Core.Bool.{Bool, true, false}
+use mathlib.Core.Bool.{Bool, true, false, cond, _&&_}
 use mathlib.Core.List.{List, [], _++_, append-assoc, append-nil}
 use native.Mathlib.Omega.{arith}
 use lib.IntN.{ℤ, pos, natAbs}
-use lib.Dec.{ltb}
+use lib.Dec.{ltb, eqb}
 use lib.ListN.{length, getD, take, drop, length-drop, take-append-drop}
 use lib.Seq.{drop-drop, drop-append-seam, take-all}
 use borrow.Author.Tests.{ltb-true, ltb-false, le-leb, eq-eqb}
 use mir.Syntax.{w32}
 use mir.Val.{SFits}
 use Rattle.rules.specs.declared.Card.{Card}
-use Rattle.rules.specs.Site.{cells, stateLength, cardFits, lengthsFit, valuesFit, readGround, readState, checkAlso, check}
+use Rattle.rules.specs.Site.{cells, stateLength, cardFits, lengthsFit, valuesFit, readGround, readState, firstOf, check}
 use Rattle.rules.specs.Sheet.{Bytes, bytesOf, numberIn, wordsBytes, wordsIn, sheetSize, header, sheetOf, cardIn, groundIn, stateIn, headFits, sheetLengthsFit, readNumber}
 use Rattle.laws.specs.Checks.{apart, together}
-use Rattle.laws.specs.Facts.{Fits}
+use Rattle.laws.specs.Facts.{Fits, check-sound, sound-check}
 use Rattle.laws.specs.Exact.{sfits}
 use Rattle.laws.specs.Bytes.{bytes-drop, number-bytes, bytes-number}
 use Rattle.laws.specs.Words.{Words, length-words, words-read, words-write}
@@ -83,6 +83,12 @@ read-checks l n m r =
 -- a ground, a height or a velocity is a word
 word : (z : ℤ) → natAbs z ≤ 50000000 → SFits w32 z
 word z h = sfits w32 (record { size = h }) tt
+
+-- where the card and the values pass, the lengths decide
+by-lengths : (b : Bool) → firstOf true b true ≡ cond b 0 2
+unfolding firstOf
+by-lengths true = refl
+by-lengths false = refl
 
 module _ (c : Card) (g s : List ℤ) (f : Fits c g s) where
   ground-words : Words g
@@ -155,16 +161,15 @@ module _ (c : Card) (g s : List ℤ) (f : Fits c g s) where
   unfolding sheetOf header bytesOf numberIn
   version-back = refl
 
-  pub number-back : check c g s ≡ 0 → readNumber sheet (length g) (length s) ≡ 0
-  unfolding readNumber headFits sheetLengthsFit check checkAlso
-  number-back e =
-      let p = apart (cardFits c) (lengthsFit c g s) (valuesFit c (readGround c g) (readState c s)) e in
+  -- its reader can refuse nothing but the lengths of the lists that it is lent
+  pub number-back : check c g s ≡ 0 → (n m : ℕ) → readNumber sheet n m ≡ cond (eqb n (length g) && eqb m (length s)) 0 2
+  unfolding readNumber headFits sheetLengthsFit
+  number-back e n m =
+      let p = check-sound c g s e in
       let long : 19 ≤ length sheet = omega (arith, length-sheet c g s) in
       let named : numberIn 4 sheet ≡ length sheet = named-back ∙ sym sheet-size in
       let h₁ = le-leb 19 (length sheet) long in
       let h₂ = eq-eqb (numberIn 4 sheet) (length sheet) named in
       let h₃ = eq-eqb (numberIn 1 (drop 4 sheet)) 1 version-back in
       let h₄ = eq-eqb (length sheet) (sheetSize (cardIn sheet)) size-back in
-      let h₅ = eq-eqb (length g) (cells (cardIn sheet)) (sym cells-back) in
-      let h₆ = eq-eqb (length s) (stateLength (cardIn sheet)) (sym length-back) in
-      rw (h₁, h₂, h₃, h₄, h₅, h₆, card-back, ground-back, state-back) (together (record { card = p .card; lengths = refl; values = p .values }))
+      rw (h₁, h₂, h₃, h₄, cells-back, length-back, card-back, ground-back, state-back, p .card, p .values) (by-lengths (eqb n (length g) && eqb m (length s)))

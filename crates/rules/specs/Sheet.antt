@@ -1,9 +1,10 @@
 -- Document 01, "The site sheet": the bytes of a site, and what is read of some bytes.
-use Prim.Native.Nat.{ℕ, zero, suc, _+_, _*_, _-_, _/_, _%_, _<_}
+use Prim.Native.Nat.{ℕ, zero, suc, _+_, _*_, _/_, _%_, _<_}
 use mathlib.Core.Bool.{Bool, cond, _&&_}
 use mathlib.Core.List.{List, [], _∷_, _++_}
 use lib.ListN.{length, getD, drop}
-use lib.IntN.{ℤ, pos, negsuc}
+use lib.IntN.{ℤ, pos, natAbs, _+ℤ_, _-ℤ_}
+use lib.Signed.{leZ}
 use lib.Dec.{ltb, leb, eqb}
 use Rattle.rules.specs.declared.Card.{Card}
 use Rattle.rules.specs.Site.{cells, stateLength, readGround, readState, cardFits, valuesFit, firstOf}
@@ -23,13 +24,12 @@ unfoldable pub numberIn : (k : ℕ) → List ℕ → ℕ
 numberIn zero l = 0
 numberIn (suc k) l = numberIn k l * 256 + getD l k 0
 
--- a word in two's complement: z itself, or 2 ^ 32 + z where z is negative (`negsuc n` is -(n + 1)), and back
+-- a word in two's complement: a z that is not negative is written as itself, a negative z as 2^32 + z; so a number from 2^31 on stands for itself less 2^32
 unfoldable pub bitsOf : ℤ → ℕ
-bitsOf (pos n) = n
-bitsOf (negsuc n) = 4294967296 - suc n
+bitsOf z = natAbs (cond (leZ (pos 0) z) z (pos 4294967296 +ℤ z))
 
 unfoldable pub valueOf : ℕ → ℤ
-valueOf b = cond (ltb b 2147483648) (pos b) (negsuc (4294967296 - suc b))
+valueOf b = cond (ltb b 2147483648) (pos b) (pos b -ℤ pos 4294967296)
 
 -- words one after the other, and the first n words of some bytes
 unfoldable pub wordsBytes : List ℤ → List ℕ

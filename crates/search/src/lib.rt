@@ -23,7 +23,7 @@ fn search_check(
 ) -> u32
     ensures { λ r. ⌜ r ≡ searchCheck card (now (ground .entry)) (now (state .entry)) (now (xs .entry)) (now (ys .entry)) window depth ⌝ }
 {
-    if !site::card_fits(card) {
+    if !card::card_fits(card) {
         return 1;
     }
     let lengths = site::lengths_fit(card, ground, state)
@@ -31,7 +31,7 @@ fn search_check(
     if !lengths {
         return 2;
     }
-    let values = site::values_fit(card, ground, state)
+    let values = values::values_fit(card, ground, state)
         & register::asked_fits(card, xs, ys, window, depth);
     if !values {
         return 3;

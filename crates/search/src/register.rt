@@ -47,7 +47,7 @@ pub fn asked_fits(card: Card, xs: &[i64], ys: &[i64], window: Window, depth: i32
 {
     let x = all_along(reach(card.columns, card.dx), xs);
     let y = all_along(reach(card.rows, card.dy), ys);
-    x & y & site::height_fits(depth) & edges_finite(window)
+    x & y & values::height_fits(depth) & edges_finite(window)
 }
 
 fn listed_at(

@@ -21,7 +21,7 @@ fn empty() -> [i64; 2000]
 pub fn to_read(card: Card, ground: &[i32], state: &[i32], n: usize) -> usize
     ensures { λ r. ⌜ r ≡ toRead card (now (ground .entry)) (now (state .entry)) n ⌝ }
 {
-    if !site::card_fits(card) {
+    if !card::card_fits(card) {
         return 0;
     }
     let lengths = site::lengths_fit(card, ground, state) & (n <= 1000);
@@ -98,7 +98,7 @@ pub fn search_gathered(
     ensures { λ r. ⌜ GatheredAnswer card (now (ground .entry)) (now (state .entry)) both n window depth (now (found .entry)) r (now (found .exit)) ⌝ }
 {
     if 1000 < n {
-        if site::card_fits(card) {
+        if card::card_fits(card) {
             return Found {
                 number: 2,
                 count: 0,

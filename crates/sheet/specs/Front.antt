@@ -1,14 +1,60 @@
--- The reader's number in two parts.
-use Prim.Native.Nat.{ℕ}
-use mathlib.Core.Bool.{Bool, true, cond}
+-- The number that a sheet's reader gives before it looks at any value, and how it stands to the reader's number.
+use Prim.Native.Nat.{ℕ, suc}
+use mathlib.Core.Path.{_≡_, refl, _∙_}
+use mathlib.Core.Bool.{Bool, true, false, cond}
 use mathlib.Core.List.{List}
-use Rattle.rules.specs.Site.{cardFits, valuesFit, readGround, readState, firstOf}
-use Rattle.rules.specs.Sheet.{cardIn, groundIn, stateIn, headFits, sheetLengthsFit}
+use native.Mathlib.Nat.{suc-ne-zero}
+use Rattle.rules.specs.Site.{cardFits, firstOf}
+use Rattle.rules.specs.Sheet.{cardIn, headFits, sheetLengthsFit, readNumber}
 
--- before it looks at any value: 9, 1 or 2, and 0 where the values decide
+-- 9, 1 or 2, and 0 where the values decide
 unfoldable pub frontNumber : List ℕ → (n m : ℕ) → ℕ
 frontNumber l n m = cond (headFits l) (firstOf (cardFits (cardIn l)) (sheetLengthsFit l n m) true) 9
 
--- and the values
-unfoldable pub sheetValuesFit : List ℕ → Bool
-sheetValuesFit l = valuesFit (cardIn l) (readGround (cardIn l) (groundIn l)) (readState (cardIn l) (stateIn l))
+module _ (l : List ℕ) (n m : ℕ) where
+  pub front-9 : headFits l ≡ false → 9 ≡ frontNumber l n m
+  unfolding frontNumber
+  front-9 h = rw h
+
+  module _ (h : headFits l ≡ true) where
+    pub front-1 : cardFits (cardIn l) ≡ false → 1 ≡ frontNumber l n m
+    unfolding frontNumber firstOf
+    front-1 k = rw (h, k)
+
+    module _ (k : cardFits (cardIn l) ≡ true) where
+      pub front-2 : sheetLengthsFit l n m ≡ false → 2 ≡ frontNumber l n m
+      unfolding frontNumber firstOf
+      front-2 j = rw (h, k, j)
+
+      pub front-0 : sheetLengthsFit l n m ≡ true → 0 ≡ frontNumber l n m
+      unfolding frontNumber firstOf
+      front-0 j = rw (h, k, j)
+
+  -- where it is 0, all that comes before the values has passed; where it is not, it is the reader's number
+  pub record Front : Type 0 where
+    pub head : headFits l ≡ true
+    pub card : cardFits (cardIn l) ≡ true
+    pub lengths : sheetLengthsFit l n m ≡ true
+
+  pub front-facts : frontNumber l n m ≡ 0 → Front
+  unfolding frontNumber firstOf
+  front-facts e = go (headFits l) (cardFits (cardIn l)) (sheetLengthsFit l n m) refl refl refl e
+    where
+      go : (a b d : Bool) → headFits l ≡ a → cardFits (cardIn l) ≡ b → sheetLengthsFit l n m ≡ d → cond a (firstOf b d true) 9 ≡ 0 → Front
+      go false b d p q r e = absurd (suc-ne-zero 8 e)
+      go true false d p q r e = absurd (suc-ne-zero 0 e)
+      go true true false p q r e = absurd (suc-ne-zero 1 e)
+      go true true true p q r e = record { head = p; card = q; lengths = r }
+
+  pub front-refused : (frontNumber l n m ≡ 0 → ⊥) → frontNumber l n m ≡ readNumber l n m
+  unfolding frontNumber readNumber firstOf
+  front-refused h = go (headFits l) (cardFits (cardIn l)) (sheetLengthsFit l n m) _ h
+    where
+      go : (a b d v : Bool) → (cond a (firstOf b d true) 9 ≡ 0 → ⊥) → cond a (firstOf b d true) 9 ≡ cond a (firstOf b d v) 9
+      go false b d v h = refl
+      go true false d v h = refl
+      go true true false v h = refl
+      go true true true v h = absurd (h refl)
+
+  pub front-told : (k : ℕ) → suc k ≡ frontNumber l n m → suc k ≡ readNumber l n m
+  front-told k e = e ∙ front-refused (λ z. suc-ne-zero k (e ∙ z))

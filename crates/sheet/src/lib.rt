@@ -1,8 +1,8 @@
-// The site sheet: its reader and its writer.
-mod reader;
-mod writer;
+// A site sheet before its words: how long it is, its head and its card, and what they say to its reader.
+mod front;
+mod size;
 
-pub use reader::card_in;
-pub use reader::own_number;
-pub use reader::read_sheet;
-pub use writer::write_sheet;
+pub use front::card_in;
+pub use front::front_number;
+pub use front::head_fits;
+pub use size::sheet_size;

@@ -83,7 +83,7 @@ pub extern "C" fn water_search(
 pub extern "C" fn water_read_sheet(sheet: &[u8], ground: &mut [i32], state: &mut [i32]) -> Heard
     ensures { λ r. ⌜ ReadContract (now (sheet .entry)) (now (ground .entry)) (now (state .entry)) r (now (ground .exit)) (now (state .exit)) ⌝ }
 {
-    sheet::read_sheet(sheet, ground, state)
+    sheet_reader::read_sheet(sheet, ground, state)
 }
 
 // The sheet of a site: the number and the size, and the bytes in front of the lent list. Refused: size 0, the bytes as lent.
@@ -96,7 +96,7 @@ pub extern "C" fn water_write_sheet(
 ) -> Wrote
     ensures { λ r. ⌜ WriteContract card (now (ground .entry)) (now (state .entry)) (now (bytes .entry)) r (now (bytes .exit)) ⌝ }
 {
-    sheet::write_sheet(card, ground, state, bytes)
+    sheet_writer::write_sheet(card, ground, state, bytes)
 }
 
 // The depth text of a height at the front of the scratch, and its length; 0 and the scratch as lent where the height is out of range or the scratch is

@@ -1,5 +1,6 @@
 -- `bits_of`: both differences are those of the definition.
-use Rattle.numbers.proofs.Signed.{neg-sub, neg-cast, neg-le, neg-result, up-cast, up-result}
+use native.Mathlib.Omega.{arith}
+use Rattle.numbers.proofs.Signed.{neg-sub, neg-cast, neg-low, neg-result, up-cast, up-result}
 use Rattle.numbers.proofs.bits_of.Statement.{statement}
 use Rattle.numbers.proofs.bits_of.Tie as tie
 
@@ -10,7 +11,7 @@ cast-n : tie.Need-cast-n
 cast-n c = neg-cast (c .before .args .z) (c .before .fits .z) (c .if1 .taken)
 
 sub-result : tie.Need-sub-result
-sub-result c = neg-le (c .before .args .z) (c .before .fits .z) (c .if1 .taken)
+sub-result c = let n = neg-low (c .before .args .z) (c .before .fits .z) (c .if1 .taken) in omega arith
 
 returns : tie.Need-returns
 returns c = neg-result (c .before .args .z) (c .before .fits .z) (c .if1 .taken)

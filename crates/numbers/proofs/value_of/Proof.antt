@@ -1,10 +1,9 @@
--- `value_of`: both differences are those of the definition.
-use mathlib.Core.Path.{sym, _∙_, subst⁻¹}
+-- `value_of`: below 2^31 the number itself, and from there on -1 less what is left up to 2^32 - 1.
+use mathlib.Core.Path.{sym, _∙_}
 use mir.Syntax.{w32}
-use mir.Val.{SFits}
 use mir.ValLaws.{toZ-ofZ}
-use Rattle.laws.specs.Words.{value-is, value-fits}
-use Rattle.numbers.proofs.Signed.{high-away}
+use Rattle.laws.specs.Words.{value-is}
+use Rattle.numbers.proofs.Signed.{high-value}
 use borrow.Author.Needs.{needs}
 use Rattle.numbers.proofs.value_of.Statement.{statement}
 use Rattle.numbers.proofs.value_of.Tie as tie
@@ -13,22 +12,18 @@ cast-result : tie.Need-cast-result
 cast-result c = search needs
 
 returns : tie.Need-returns
-returns c = sym (value-is (c .before .args .b))
+returns c = sym (value-is (c .before .args .b) (c .before .fits .b .fits))
 
-sub-n : tie.Need-sub-n
-sub-n c = search needs
+sub-less : tie.Need-sub-less
+sub-less c = search needs
 
-cast-n : tie.Need-cast-n
-cast-n c = search needs
-
-sub-result : tie.Need-sub-result
-sub-result c =
-    let b = c .before .args .b in
-    let f = c .before .fits .b .fits in
-    subst⁻¹ (SFits w32) (high-away b (c .if1 .left) f) (value-fits b f)
+less-requires : tie.Need-less-requires
+less-requires c κs = search needs
 
 returns-2 : tie.Need-returns-2
-returns-2 c = toZ-ofZ w32 _ (sub-result c) ∙ high-away (c .before .args .b) (c .if1 .left) (c .before .fits .b .fits)
+returns-2 c =
+    let e = c .before in
+    toZ-ofZ w32 (c .less .result) (record { sfits = c .less .ok }) ∙ c .less .ensures ∙ high-value (e .before .args .b) (e .if1 .left) (e .before .fits .b .fits)
 
 pub value-of-spec : {M : Type 1} → statement M
-value-of-spec = tie.close (tie.spec cast-result returns sub-n cast-n sub-result returns-2)
+value-of-spec = tie.close (tie.spec cast-result returns sub-less less-requires returns-2)

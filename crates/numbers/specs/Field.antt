@@ -1,9 +1,0 @@
--- What a reader of a number requires.
-use Prim.Native.Nat.{ℕ, _+_, _≤_}
-use mathlib.Core.List.{List}
-use lib.ListN.{length}
-
--- a field of k bytes from index at on, of at most four bytes
-pub record Field (l : List ℕ) (at k : ℕ) : Type 0 where
-  pub narrow : k ≤ 4
-  pub inside : at + k ≤ length l
