@@ -1,6 +1,6 @@
 -- What the checks of a search say where they give 0, as facts that a proof can use; and the call's number and places, where they give 0 and where not.
-use mathlib.Core.Path.{_≡_, refl, sym, _∙_, ap}
-use mathlib.Core.Bool.{true, cond, _&&_}
+use mathlib.Core.Path.{_≡_, _∙_, ap}
+use mathlib.Core.Bool.{true, cond}
 use mathlib.Core.List.{List, []}
 use Prim.Native.Nat.{ℕ, _*_, _≤_}
 use lib.Dec.{leb, eqb, leb→le, eqb→eq}
@@ -8,17 +8,15 @@ use lib.IntN.{ℤ}
 use lib.ListN.{length}
 use Rattle.rules.specs.declared.Card.{Card}
 use Rattle.rules.specs.declared.Window.{Window}
-use Rattle.rules.specs.Site.{cardFits, lengthsFit, valuesFit, heightFits, readGround, readState, firstOf}
+use Rattle.rules.specs.Site.{heightFits}
 use Rattle.rules.specs.Search.{registerFits, allAlong, askedFits, edgesFinite, listOf}
 use Rattle.rules.specs.Calls.{searchCheck, searchPlaces, searchNumber}
-use Rattle.laws.specs.Tests.{and-left, and-right, four-of, to-T, true-of}
-use Rattle.laws.specs.Checks.{apart}
+use Rattle.laws.specs.Tests.{and-left, and-right, four-of, true-of}
+use Rattle.laws.specs.Facts.{Sound, granted}
 use Rattle.laws.specs.Outcomes.{first-refused, first-passed, if-done, if-refused}
 
 pub record Asked (c : Card) (g s xs ys : List ℤ) (w : Window) (depth : ℤ) : Type 0 where
-  pub card : cardFits c ≡ true
-  pub lengths : lengthsFit c g s ≡ true
-  pub values : valuesFit c (readGround c g) (readState c s) ≡ true
+  pub sound : Sound c g s
   pub same : length xs ≡ length ys
   pub few : length xs ≤ 1000
   pub x-fits : allAlong (c .columns * c .dx) xs ≡ true
@@ -27,27 +25,17 @@ pub record Asked (c : Card) (g s xs ys : List ℤ) (w : Window) (depth : ℤ) : 
   pub edges-finite : edgesFinite w ≡ true
 
 module _ (c : Card) (g s xs ys : List ℤ) (w : Window) (depth : ℤ) where
-  -- the three tests: what is said of the checks is said through this law
-  pub search-check-is : searchCheck c g s xs ys w depth ≡ firstOf (cardFits c) (lengthsFit c g s && registerFits xs ys) (valuesFit c (readGround c g) (readState c s) && askedFits c xs ys w depth)
-  unfolding searchCheck
-  search-check-is = refl
-
   pub asked-facts : searchCheck c g s xs ys w depth ≡ 0 → Asked c g s xs ys w depth
-  unfolding registerFits askedFits
+  unfolding searchCheck registerFits askedFits
   asked-facts e =
-      let own = lengthsFit c g s in
-      let kept = valuesFit c (readGround c g) (readState c s) in
-      let p = apart (cardFits c) (own && registerFits xs ys) (kept && askedFits c xs ys w depth) (sym search-check-is ∙ e) in
+      let a = granted true (registerFits xs ys) (askedFits c xs ys w depth) c g s e in
       let same = eqb (length xs) (length ys) in
       let few = leb (length xs) 1000 in
-      let register = and-right own (registerFits xs ys) (to-T (p .lengths)) in
-      let asked = four-of (allAlong (c .columns * c .dx) xs) (allAlong (c .rows * c .dy) ys) (heightFits depth) (edgesFinite w) (and-right kept (askedFits c xs ys w depth) (to-T (p .values))) in
+      let asked = four-of (allAlong (c .columns * c .dx) xs) (allAlong (c .rows * c .dy) ys) (heightFits depth) (edgesFinite w) (a .for-3) in
       record {
-        card = p .card;
-        lengths = true-of own (and-left own (registerFits xs ys) (to-T (p .lengths)));
-        values = true-of kept (and-left kept (askedFits c xs ys w depth) (to-T (p .values)));
-        same = eqb→eq (length xs) (length ys) (and-left same few register);
-        few = leb→le (length xs) 1000 (and-right same few register);
+        sound = a .sound;
+        same = eqb→eq (length xs) (length ys) (and-left same few (a .for-2));
+        few = leb→le (length xs) 1000 (and-right same few (a .for-2));
         x-fits = true-of (allAlong (c .columns * c .dx) xs) (asked .one);
         y-fits = true-of (allAlong (c .rows * c .dy) ys) (asked .two);
         depth-fits = true-of (heightFits depth) (asked .three);

@@ -16,14 +16,14 @@ use lib.Ieee.{Float, binary64, lt, le, ofBits}
 use borrow.Author.Tests.{le-leb, leb-true, leb-false}
 use Rattle.rules.specs.declared.Card.{Card}
 use Rattle.rules.specs.declared.Window.{Window}
-use Rattle.rules.specs.Site.{cardFits, readState, firstOf, firstRefusal}
+use Rattle.rules.specs.Site.{checkAlso, cardFits, readState, firstOf, firstRefusal}
 use Rattle.rules.specs.Search.{isFinite, edgesFinite, asFloat, inOrder, inside, cellAlong, listed, listedAt, places, listOf, askedFits}
 use Rattle.rules.specs.Calls.{searchCheck, searchPlaces, searchNumber, searchAnswer, searchFound}
 use Rattle.laws.specs.Facts.{card-facts}
 use Rattle.laws.specs.Outcomes.{both-passed, if-done}
 use Rattle.laws.specs.Sheets.{passed}
 use Rattle.laws.specs.Along.{along-whole, along-high, all-along, reach-high}
-use Rattle.laws.specs.Asked.{search-check-is, asked-facts, places-passed, number-passed}
+use Rattle.laws.specs.Asked.{asked-facts, places-passed, number-passed}
 use Rattle.laws.specs.Rising.{rising, sound, complete, places-empty}
 use Rattle.promises.specs.Refused.{search-refused}
 use Rattle.promises.specs.Edges.{atMost, atLeast, low-exact, high-exact, none-in-order, zero-low, zero-high}
@@ -160,9 +160,9 @@ module _ (c : Card) (g s xs ys : List ℤ) (w : Window) (depth : ℤ) where
       pub list-as-lent : searchFound c g s xs ys w depth lent ≡ lent
 
     checked-at-8 : searchNumber c g s xs ys w depth lent ≡ 8 → (searchCheck c g s xs ys w depth ≡ 0) × (length lent < length theList)
-    unfolding searchNumber
+    unfolding searchNumber searchCheck checkAlso
     checked-at-8 e =
-        let t = too-short (searchCheck c g s xs ys w depth) (leb (length (searchPlaces c g s xs ys w depth)) (length lent)) (rw search-check-is (checks-below-8 (cardFits c) _ _)) e in
+        let t = too-short (searchCheck c g s xs ys w depth) (leb (length (searchPlaces c g s xs ys w depth)) (length lent)) (checks-below-8 (cardFits c) _ _) e in
         (t .0, leb-false (length theList) (length lent) (rw (places-passed c g s xs ys w depth (t .0)) at (t .1)))
 
     pub count-at-8 : searchNumber c g s xs ys w depth lent ≡ 8 → TooShort
@@ -181,7 +181,7 @@ module _ (c : Card) (g s xs ys : List ℤ) (w : Window) (depth : ℤ) where
   inside-is : searchCheck c g s xs ys w depth ≡ 0 → (k : ℕ) → k < length xs → OnSite (getD xs k (pos 0)) (getD ys k (pos 0))
   inside-is e k h =
       let a = asked-facts c g s xs ys w depth e in
-      let f = card-facts c (a .card) in
+      let f = card-facts c (a .sound .card) in
       let x = all-along (c .columns * c .dx) xs (a .x-fits) k h in
       let y = all-along (c .rows * c .dy) ys (a .y-fits) k (omega (arith, a .same)) in
       record {
@@ -268,8 +268,8 @@ module _ {w v : Window} (m : SameWindow w v) where
     same-list i = places (length xs) (λ k. same-inside (getD xs k (pos 0)) (getD ys k (pos 0)) i && leZ depth (readState c s .height (cellAlong (c .dx) (c .columns) (getD xs k (pos 0))) (cellAlong (c .dy) (c .rows) (getD ys k (pos 0)))))
 
     same-check : searchCheck c g s xs ys w depth ≡ searchCheck c g s xs ys v depth
-    unfolding askedFits
-    same-check = search-check-is c g s xs ys w depth ∙ rw same-edges (sym (search-check-is c g s xs ys v depth))
+    unfolding searchCheck askedFits
+    same-check = rw same-edges
 
     same-places : searchPlaces c g s xs ys w depth ≡ searchPlaces c g s xs ys v depth
     unfolding searchPlaces

@@ -12,9 +12,8 @@ use borrow.Author.Tests.{ltb-true, ltb-false, le-leb, eq-eqb}
 use mir.Syntax.{w32}
 use mir.Val.{SFits}
 use Rattle.rules.specs.declared.Card.{Card}
-use Rattle.rules.specs.Site.{cells, stateLength, cardFits, lengthsFit, valuesFit, readGround, readState, firstOf, check}
+use Rattle.rules.specs.Site.{cells, stateLength, lengthsFit, firstOf, check}
 use Rattle.rules.specs.Sheet.{Bytes, bytesOf, numberIn, wordsBytes, wordsIn, sheetSize, header, sheetOf, cardIn, groundIn, stateIn, headFits, sheetLengthsFit, readNumber}
-use Rattle.laws.specs.Checks.{apart, together}
 use Rattle.laws.specs.Facts.{Fits, check-sound, sound-check}
 use Rattle.laws.specs.Exact.{sfits}
 use Rattle.laws.specs.Bytes.{bytes-drop, number-bytes, bytes-number}
@@ -71,12 +70,12 @@ module _ (l : List ℕ) (b : Bytes l) where
 
 -- and what was read passes the first three checks
 pub read-checks : (l : List ℕ) (n m : ℕ) → Read l n m → check (cardIn l) (groundIn l) (stateIn l) ≡ 0
-unfolding check checkAlso lengthsFit
+unfolding lengthsFit
 read-checks l n m r =
     let c = cardIn l in
     let p : lengthsFit c (groundIn l) (stateIn l) ≡ true =
     rw (eq-eqb (length (groundIn l)) (cells c) (length-ground-in l), eq-eqb (length (stateIn l)) (stateLength c) (length-state-in l)) in
-    together (record { card = r .card; lengths = p; values = r .values })
+    sound-check c (groundIn l) (stateIn l) (record { card = r .card; lengths = p; values = r .values })
 
 -- ---- a written sheet reads back
 

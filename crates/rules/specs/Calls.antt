@@ -2,7 +2,7 @@
 -- Of the first three checks `firstOf` gives the lowest number that applies; `firstRefusal` puts a later number behind them; `ifDone` says what is left where
 -- the number is 0, and where not (Site.antt).
 use Prim.Native.Nat.{ℕ}
-use mathlib.Core.Bool.{cond, _&&_}
+use mathlib.Core.Bool.{true, cond}
 use mathlib.Core.List.{List, [], _++_}
 use lib.ListN.{length, drop, replicate}
 use lib.IntN.{ℤ, pos}
@@ -13,7 +13,7 @@ use Rattle.rules.specs.declared.Window.{Window}
 use Rattle.rules.specs.declared.Found.{Found}
 use Rattle.rules.specs.declared.Heard.{Heard}
 use Rattle.rules.specs.declared.Wrote.{Wrote}
-use Rattle.rules.specs.Site.{cardFits, lengthsFit, valuesFit, readGround, readState, firstOf, check, checkWith, firstRefusal, ifDone}
+use Rattle.rules.specs.Site.{checkAlso, check, checkWith, firstRefusal, ifDone}
 use Rattle.rules.specs.Step.{stepNumber, nextState}
 use Rattle.rules.specs.Run.{Outcome, runAfter}
 use Rattle.rules.specs.Search.{registerFits, askedFits, listOf}
@@ -45,10 +45,9 @@ runScratch c g s scratch = ifDone (checkWith c g s (length scratch)) (replicate 
 -- ---- Search: done: the count, the first count places filled, the rest as lent. 8: the count needed, list as lent. 1 to 3: count 0, list as lent.
 
 module _ (c : Card) (ground state xs ys : List ℤ) (w : Window) (depth : ℤ) where
-  -- the first three checks, which look at the register and at what is asked too
+  -- the first three checks; for 2 the register is looked at too, and for 3 what is asked
   unfoldable pub searchCheck : ℕ
-  searchCheck =
-      firstOf (cardFits c) (lengthsFit c ground state && registerFits xs ys) (valuesFit c (readGround c ground) (readState c state) && askedFits c xs ys w depth)
+  searchCheck = checkAlso true (registerFits xs ys) (askedFits c xs ys w depth) c ground state
 
   -- the places that are to be handed over: none where a check refuses
   unfoldable pub searchPlaces : List ℕ

@@ -32,9 +32,9 @@ module _ (c : Card) (g s xs ys : List ℤ) (w : Window) (depth : ℤ) where
   unfolding valuesFit
   checked-of e =
       let a = asked-facts c g s xs ys w depth e in
-      let long = length-facts c g s (a .lengths) in
-      let values = four-of (groundsFit c (readGround c g)) (heightsFit c (readState c s)) (velocitiesFit c (readState c s)) (wallsStill c (readState c s)) (to-T (a .values)) in
-      record { card = a .card; heights = omega arith; kept = true-of (heightsFit c (readState c s)) (values .two); asked = a .depth-fits; same = a .same; few = a .few; x-fits = a .x-fits; y-fits = a .y-fits }
+      let long = length-facts c g s (a .sound .lengths) in
+      let values = four-of (groundsFit c (readGround c g)) (heightsFit c (readState c s)) (velocitiesFit c (readState c s)) (wallsStill c (readState c s)) (to-T (a .sound .values)) in
+      record { card = a .sound .card; heights = omega arith; kept = true-of (heightsFit c (readState c s)) (values .two); asked = a .depth-fits; same = a .same; few = a .few; x-fits = a .x-fits; y-fits = a .y-fits }
 
   module _ (lent : List ℕ) where
     pub refused : (n : ℕ) → n ≡ searchCheck c g s xs ys w depth → (n ≡ 0 → ⊥) → SearchContract c g s xs ys w depth lent (record { number = n; count = 0 }) lent

@@ -14,11 +14,11 @@ use Rattle.rules.specs.declared.Card.{Card}
 use Rattle.rules.specs.declared.Chamber.{Chamber}
 use Rattle.rules.specs.declared.Window.{Window}
 use Rattle.rules.specs.declared.Found.{Found}
-use Rattle.rules.specs.Site.{cardFits, lengthsFit, firstOf}
+use Rattle.rules.specs.Site.{cardFits, lengthsFit, firstOf, checkAlso}
 use Rattle.rules.specs.Search.{registerFits, xsOf, ysOf}
+use Rattle.rules.specs.Calls.{searchCheck}
 use Rattle.rules.specs.Contracts.{SearchContract, RowSearchContract}
-use Rattle.laws.specs.Tests.{and-right, to-T}
-use Rattle.laws.specs.Asked.{search-check-is}
+use Rattle.laws.specs.Tests.{and-left, and-right, to-T}
 use Rattle.search.specs.Row.{none, putAt, gathered, toRead, Readable}
 use Rattle.search.specs.Gathered.{GatheredAnswer}
 use Rattle.search.proofs.Answers.{refused}
@@ -68,10 +68,10 @@ gathered-ys row k = back row (length row) (omega arith) k ∙ ap ysOf (take-leng
 module _ (c : Card) (g s : List ℤ) where
   pub readable : (row : List Chamber) → Readable row (toRead c g s (length row))
   unfolding toRead
-  readable row = go (cardFits c && (lengthsFit c g s && leb (length row) 1000)) refl
+  readable row = go (cardFits c && (leb (length row) 1000 && lengthsFit c g s)) refl
     where
-      go : (t : Bool) → (cardFits c && (lengthsFit c g s && leb (length row) 1000)) ≡ t → Readable row (cond t (length row) 0)
-      go true e = record { most = omega arith; few = leb→le (length row) 1000 (and-right (lengthsFit c g s) (leb (length row) 1000) (and-right (cardFits c) _ (to-T e))) }
+      go : (t : Bool) → (cardFits c && (leb (length row) 1000 && lengthsFit c g s)) ≡ t → Readable row (cond t (length row) 0)
+      go true e = record { most = omega arith; few = leb→le (length row) 1000 (and-left (leb (length row) 1000) (lengthsFit c g s) (and-right (cardFits c) _ (to-T e))) }
       go false e = record { most = zero-le; few = zero-le }
 
 -- ---- the answer
@@ -88,19 +88,18 @@ not-zero true e = suc-ne-zero 1 e
 not-zero false e = suc-ne-zero 0 e
 
 -- one test more changes nothing where the others fail
-still-fails : (a l e f : Bool) → (a && (l && f)) ≡ false → (a && (l && (e && f))) ≡ false
-still-fails false l e f h = refl
-still-fails true false e f h = refl
-still-fails true true false f h = refl
-still-fails true true true f h = h
+still-fails : (a e f l : Bool) → (a && (f && l)) ≡ false → (a && ((e && f) && l)) ≡ false
+still-fails false e f l h = refl
+still-fails true false f l h = refl
+still-fails true true f l h = h
 
 module _ (c : Card) (g s : List ℤ) (w : Window) (depth : ℤ) (lent : List ℕ) where
   -- where the card or a length is refused, the answer does not hang on the chambers
-  refused-early : (xs ys : List ℤ) → (cardFits c && (lengthsFit c g s && leb (length xs) 1000)) ≡ false → SearchContract c g s xs ys w depth lent (record { number = cond {A = ℕ} (cardFits c) 2 1; count = 0 }) lent
-  unfolding registerFits
+  refused-early : (xs ys : List ℤ) → (cardFits c && (leb (length xs) 1000 && lengthsFit c g s)) ≡ false → SearchContract c g s xs ys w depth lent (record { number = cond {A = ℕ} (cardFits c) 2 1; count = 0 }) lent
+  unfolding searchCheck checkAlso registerFits
   refused-early xs ys h =
-      let tests = still-fails (cardFits c) (lengthsFit c g s) (eqb (length xs) (length ys)) (leb (length xs) 1000) h in
-      refused c g s xs ys w depth lent _ (sym (search-check-is c g s xs ys w depth ∙ first-two (cardFits c) _ _ tests)) (not-zero (cardFits c))
+      let tests = still-fails (cardFits c) (eqb (length xs) (length ys)) (leb (length xs) 1000) (lengthsFit c g s) h in
+      refused c g s xs ys w depth lent _ (sym (first-two (cardFits c) _ _ tests)) (not-zero (cardFits c))
 
   module _ (r : Found) (left : List ℕ) (row : List Chamber) where
     abbrev n : ℕ
@@ -110,12 +109,12 @@ module _ (c : Card) (g s : List ℤ) (w : Window) (depth : ℤ) (lent : List ℕ
     both = gathered row (toRead c g s n)
 
     -- every chamber was read
-    read : (cardFits c && (lengthsFit c g s && leb n 1000)) ≡ true → n ≤ 1000 → GatheredAnswer c g s both n w depth lent r left → RowSearchContract c g s row w depth lent r left
+    read : (cardFits c && (leb n 1000 && lengthsFit c g s)) ≡ true → n ≤ 1000 → GatheredAnswer c g s both n w depth lent r left → RowSearchContract c g s row w depth lent r left
     unfolding toRead
     read e k a = rw (← gathered-xs row k, ← gathered-ys row k) (rw e at (a .few k))
 
     -- none was: the number stands before any is looked at
-    unread : (cardFits c && (lengthsFit c g s && leb n 1000)) ≡ false → GatheredAnswer c g s both n w depth lent r left → RowSearchContract c g s row w depth lent r left
+    unread : (cardFits c && (leb n 1000 && lengthsFit c g s)) ≡ false → GatheredAnswer c g s both n w depth lent r left → RowSearchContract c g s row w depth lent r left
     unread e a = go (leb n 1000) refl
       where
         own : SearchContract c g s (xsOf row) (ysOf row) w depth lent (record { number = cond {A = ℕ} (cardFits c) 2 1; count = 0 }) lent
@@ -131,8 +130,8 @@ module _ (c : Card) (g s : List ℤ) (w : Window) (depth : ℤ) (lent : List ℕ
             record { answer = many .0 ∙ own .answer; found-exit = many .1 ∙ own .found-exit }
 
     pub row-answers : GatheredAnswer c g s both n w depth lent r left → RowSearchContract c g s row w depth lent r left
-    row-answers a = go (cardFits c && (lengthsFit c g s && leb n 1000)) refl
+    row-answers a = go (cardFits c && (leb n 1000 && lengthsFit c g s)) refl
       where
-        go : (t : Bool) → (cardFits c && (lengthsFit c g s && leb n 1000)) ≡ t → RowSearchContract c g s row w depth lent r left
-        go true e = read e (leb→le n 1000 (and-right (lengthsFit c g s) (leb n 1000) (and-right (cardFits c) _ (to-T e)))) a
+        go : (t : Bool) → (cardFits c && (leb n 1000 && lengthsFit c g s)) ≡ t → RowSearchContract c g s row w depth lent r left
+        go true e = read e (leb→le n 1000 (and-left (leb n 1000) (lengthsFit c g s) (and-right (cardFits c) _ (to-T e)))) a
         go false e = unread e a

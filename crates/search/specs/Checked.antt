@@ -24,12 +24,12 @@ pub record Checked (c : Card) (s xs ys : List ℤ) (depth : ℤ) : Type 0 where
   pub y-fits : allAlong (c .rows * c .dy) ys ≡ true
 
 -- a list laid at the front of an old one
-pub record Listed (l old : List ℕ) (count : ℕ) (now : List ℕ) : Type 0 where
+pub record Listed (l old : List ℕ) (count : ℕ) (new : List ℕ) : Type 0 where
   pub counted : count ≡ length l
-  pub laid : now ≡ l ++ drop (length l) old
+  pub laid : new ≡ l ++ drop (length l) old
 
 -- the register and a draft that takes all of its places
-pub record Ready (c : Card) (s xs ys : List ℤ) (depth : ℤ) (draft : List ℕ) : Type 0 where
+pub record DraftRoom (c : Card) (s xs ys : List ℤ) (depth : ℤ) (draft : List ℕ) : Type 0 where
   pub checked : Checked c s xs ys depth
   pub draft-long : length draft ≡ 1000
 

@@ -13,7 +13,7 @@ use Rattle.rules.specs.Site.{cardFits, lengthsFit}
 
 -- how many of n chambers are read: none where the card or a length is refused
 unfoldable pub toRead : Card → (ground state : List ℤ) (n : ℕ) → ℕ
-toRead c g s n = cond (cardFits c && (lengthsFit c g s && leb n 1000)) n 0
+toRead c g s n = cond (cardFits c && (leb n 1000 && lengthsFit c g s)) n 0
 
 -- so many are in the row, and in the array's room
 pub record Readable (row : List Chamber) (n : ℕ) : Type 0 where

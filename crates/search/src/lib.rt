@@ -6,12 +6,12 @@ ghost use mathlib.Core.Path.{_≡_};
 ghost use lib.ListN.{length};
 ghost use Rattle.rules.specs.Calls.{searchCheck};
 ghost use Rattle.rules.specs.Contracts.{SearchContract};
-ghost use Rattle.search.specs.Checked.{Reported, Ready};
+ghost use Rattle.search.specs.Checked.{Reported, DraftRoom};
 use rules::Card;
 use rules::Found;
 use rules::Window;
 
-// The first three checks, with what the search asks besides: the lowest number that applies.
+// The first three checks, with what the search asks besides: the lowest number that applies. No chamber is looked at before the card and the lengths have passed.
 fn search_check(
     card: Card,
     ground: &[i32],
@@ -23,20 +23,13 @@ fn search_check(
 ) -> u32
     ensures { λ r. ⌜ r ≡ searchCheck card (now (ground .entry)) (now (state .entry)) (now (xs .entry)) (now (ys .entry)) window depth ⌝ }
 {
-    if !card::card_fits(card) {
-        return 1;
+    let register = (xs.len() == ys.len()) & (xs.len() <= 1000);
+    let front = site::front(card, ground, state, true, register);
+    if front != 0 {
+        return front;
     }
-    let lengths = site::lengths_fit(card, ground, state)
-        & ((xs.len() == ys.len()) & (xs.len() <= 1000));
-    if !lengths {
-        return 2;
-    }
-    let values = values::values_fit(card, ground, state)
-        & register::asked_fits(card, xs, ys, window, depth);
-    if !values {
-        return 3;
-    }
-    0
+    let asked = register::asked_fits(card, xs, ys, window, depth);
+    site::check_also(card, ground, state, true, register, asked)
 }
 
 fn blank() -> [u32; 1000]
@@ -56,7 +49,7 @@ fn report(
     draft: &mut [u32],
     found: &mut [u32],
 ) -> Found
-    requires { ⌜ Ready card (now state) (now xs) (now ys) depth (now draft) ⌝ }
+    requires { ⌜ DraftRoom card (now state) (now xs) (now ys) depth (now draft) ⌝ }
     ensures { λ r. ⌜ Reported card (now (state .entry)) (now (xs .entry)) (now (ys .entry)) window depth (now (found .entry)) r (now (found .exit)) ⌝ }
 {
     let n = register::list(card, state, window, depth, xs, ys, draft);

@@ -21,11 +21,8 @@ fn empty() -> [i64; 2000]
 pub fn to_read(card: Card, ground: &[i32], state: &[i32], n: usize) -> usize
     ensures { λ r. ⌜ r ≡ toRead card (now (ground .entry)) (now (state .entry)) n ⌝ }
 {
-    if !card::card_fits(card) {
-        return 0;
-    }
-    let lengths = site::lengths_fit(card, ground, state) & (n <= 1000);
-    if !lengths {
+    let front = site::front(card, ground, state, true, n <= 1000);
+    if front != 0 {
         return 0;
     }
     n

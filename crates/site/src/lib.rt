@@ -1,7 +1,8 @@
 // The first three checks of a site, with what a call asks besides: its card, the lengths of its lists, and every value in them.
 ghost use mathlib.Core.Path.{_≡_};
-ghost use mathlib.Core.Bool.{true, _&&_};
-ghost use Rattle.rules.specs.Site.{cardFits, lengthsFit, firstOf, checkAlso, check as Site·check, checkWith};
+ghost use mathlib.Core.Bool.{true};
+ghost use Rattle.rules.specs.Site.{cardFits, lengthsFit, checkAlso, check as Site·check, checkWith};
+ghost use Rattle.site.specs.Front.{frontAlso};
 use rules::Card;
 
 pub fn lengths_fit(card: Card, ground: &[i32], state: &[i32]) -> bool
@@ -13,7 +14,7 @@ pub fn lengths_fit(card: Card, ground: &[i32], state: &[i32]) -> bool
 
 // Before any value is looked at: 1 or 2, and 0 where the values decide.
 pub fn front(card: Card, ground: &[i32], state: &[i32], one: bool, two: bool) -> u32
-    ensures { λ r. ⌜ r ≡ firstOf (one && cardFits card) (two && lengthsFit card (now (ground .entry)) (now (state .entry))) true ⌝ }
+    ensures { λ r. ⌜ r ≡ frontAlso one two card (now (ground .entry)) (now (state .entry)) ⌝ }
 {
     let fits = one & card::card_fits(card);
     if !fits {

@@ -4,6 +4,7 @@ use mathlib.Core.Path.{_≡_, sym, ap, _∙_}
 use mathlib.Core.Bool.{Bool, true, _&&_}
 use borrow.Author.Tests.{not-true, not-false}
 use Rattle.rules.specs.Site.{cardFits, lengthsFit, valuesFit, readGround, readState, firstOf, checkAlso}
+use Rattle.site.specs.Front.{frontAlso}
 use Rattle.laws.specs.Tests.{and-right, to-T, true-of}
 use Rattle.laws.specs.Checks.{Passed, apart, by-front}
 use Rattle.site.proofs.check_also.Statement.{statement}
@@ -15,6 +16,7 @@ module _ (e : tie.Else1) where
   start = e .before .before
 
   front-passed : Passed (start .args .one && cardFits (start .args .card)) (start .args .two && lengthsFit (start .args .card) (start .args .ground .now) (start .args .state .now)) true
+  unfolding frontAlso
   front-passed = apart _ _ _ (sym (e .before .front .ensures) ∙ e .if1 .left)
 
 values-is : (p : tie.After-values-fit)
@@ -27,7 +29,7 @@ front-requires : tie.Need-front-requires
 front-requires c κs = search needs
 
 returns : tie.Need-returns
-unfolding checkAlso
+unfolding checkAlso frontAlso
 returns c = sym (by-front _ _ _ (c .before .front .result) (c .before .front .ensures) (c .if1 .taken))
 
 values-fit-requires : tie.Need-values-fit-requires

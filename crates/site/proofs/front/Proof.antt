@@ -4,6 +4,7 @@ use mathlib.Core.Path.{_≡_, sym, ap, _∙_}
 use mathlib.Core.Bool.{Bool, true, _&&_}
 use borrow.Author.Tests.{not-true, not-false}
 use Rattle.rules.specs.Site.{cardFits, lengthsFit, firstOf}
+use Rattle.site.specs.Front.{frontAlso}
 use Rattle.laws.specs.Tests.{and-right, to-T, true-of}
 use Rattle.site.proofs.front.Statement.{statement}
 use Rattle.site.proofs.front.Tie as tie
@@ -24,18 +25,18 @@ card-fits-requires : tie.Need-card-fits-requires
 card-fits-requires c κs = search needs
 
 returns : tie.Need-returns
-unfolding firstOf
+unfolding frontAlso firstOf
 returns c = rw (sym (card-is (c .before)) ∙ not-true _ (c .if1 .taken))
 
 lengths-fit-requires : tie.Need-lengths-fit-requires
 lengths-fit-requires c κs = true-of _ (and-right (c .before .before .args .one) _ (to-T (passed c)))
 
 returns-2 : tie.Need-returns-2
-unfolding firstOf
+unfolding frontAlso firstOf
 returns-2 c = rw (passed (c .before .before), sym (lengths-is (c .before)) ∙ not-true _ (c .if2 .taken))
 
 returns-3 : tie.Need-returns-3
-unfolding firstOf
+unfolding frontAlso firstOf
 returns-3 c = rw (passed (c .before .before), sym (lengths-is (c .before)) ∙ not-false _ (c .if2 .left))
 
 pub front-spec : {M : Type 1} → statement M
