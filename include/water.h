@@ -12,7 +12,8 @@
  * Lists: rows run south to north, and within a row west to east. Ground is columns*rows words. A state is columns*rows heights,
  * then (columns+1)*rows eastward velocities, then columns*(rows+1) northward velocities. Micrometres and micrometres a second.
  *
- * Stack that a call takes, in bytes, where the archive is rt's for x86-64 (a thread takes some for itself besides):
+ * Stack that a call takes, in bytes, where the archive is rt's for x86-64. A thread takes some for itself besides, and so does a
+ * loader that binds memcpy and memset only when they are first called.
  *
  *                          any input   small site   refused
  *     water_step             397,000       27,000     1,000
