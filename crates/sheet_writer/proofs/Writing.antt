@@ -10,13 +10,12 @@ use lib.ListN.{length, drop, length-append}
 use lib.Dec.{leb}
 use borrow.Author.Tests.{le-leb, lt-leb, leb-true}
 use Rattle.rules.specs.declared.Card.{Card}
-use Rattle.rules.specs.Site.{cardFits, lengthsFit, valuesFit, readGround, readState, firstOf, check}
+use Rattle.rules.specs.Site.{cardFits, lengthsFit, valuesFit, readGround, readState, firstOf, checkAlso, check}
 use Rattle.rules.specs.Sheet.{bytesOf, wordsBytes, sheetSize, header, sheetOf}
 use Rattle.rules.specs.Calls.{writeNumber, writeAnswer, writeBytes}
 use Rattle.rules.specs.Contracts.{WriteContract}
 use Rattle.laws.specs.Outcomes.{first-refused, first-passed, both-passed, if-done, if-refused}
-use Rattle.laws.specs.Checks.{apart}
-use Rattle.laws.specs.Facts.{length-facts}
+use Rattle.laws.specs.Facts.{length-facts, check-sound}
 use Rattle.laws.specs.Laid.{laid, laid-laid, laid-front}
 use Rattle.laws.specs.Words.{length-words}
 use Rattle.laws.specs.Sheets.{size-words, length-header, length-sheet}
@@ -39,7 +38,7 @@ module _ (c : Card) (g s : List ℤ) (room r : ℕ) (e : r ≡ check c g s) wher
 
 -- where the check's number is not 1, the card fits
 pub card-passed : (c : Card) (g s : List ℤ) (r : ℕ) → r ≡ check c g s → (r ≡ 1 → ⊥) → cardFits c ≡ true
-unfolding check firstOf
+unfolding check checkAlso firstOf
 card-passed c g s r e h = go (cardFits c) (λ z. h (e ∙ z))
   where
     go : (b : Bool) → (firstOf b (lengthsFit c g s) (valuesFit c (readGround c g) (readState c s)) ≡ 1 → ⊥) → b ≡ true
@@ -54,10 +53,10 @@ pub record Clean (c : Card) (g s : List ℤ) (room : ℕ) : Type 0 where
   pub room-for : sheetSize c ≤ room
 
 pub clean : (c : Card) (g s : List ℤ) (room : ℕ) → writeNumber c g s room ≡ 0 → Clean c g s room
-unfolding writeNumber check
+unfolding writeNumber
 clean c g s room e =
     let p = both-passed (check c g s) (cond (leb (sheetSize c) room) 0 8) e in
-    let q = apart (cardFits c) (lengthsFit c g s) (valuesFit c (readGround c g) (readState c s)) (p .0) in
+    let q = check-sound c g s (p .0) in
     let n = length-facts c g s (q .lengths) in
     record { card = q .card; size = size-words c ∙ omega (arith, n .ground, n .state); longer = omega (arith, n .ground, n .heights); room-for = fitting (leb (sheetSize c) room) refl (p .1) }
   where
