@@ -9,21 +9,21 @@ use lib.ListN.{length, take, drop, set, getD, length-append, length-drop}
 use lib.Seq.{take-suc, drop-cons, append-snoc, set-append-seam, length-take-le}
 
 -- of n places the first k are copied from `source`, and the rest is as it was in `old`
-pub record Copied {X : Type 0} (n : ℕ) (source old : List X) (k : ℕ) (now : List X) : Type 0 where
+pub record Copied {X : Type 0} (n : ℕ) (source old : List X) (k : ℕ) (new : List X) : Type 0 where
   pub most : k ≤ n
-  pub is : now ≡ take k source ++ drop k old
+  pub is : new ≡ take k source ++ drop k old
 
 module _ {X : Type 0} {n : ℕ} {source old : List X} where
   pub copy-none : Copied n source old 0 old
   copy-none = record { most = zero-le; is = refl }
 
-  pub copy-length : {k : ℕ} {now : List X} → Copied n source old k now → n ≤ length source → n ≤ length old → length now ≡ length old
+  pub copy-length : {k : ℕ} {new : List X} → Copied n source old k new → n ≤ length source → n ≤ length old → length new ≡ length old
   copy-length {k} f h g =
       let most = f .most in
       ap length (f .is) ∙ length-append (take k source) (drop k old) ∙ rw (length-take-le k source (omega arith), length-drop k old) (omega arith)
 
-  pub copy-more : (d : X) {k : ℕ} {now : List X} → Copied n source old k now → k < n → n ≤ length source → n ≤ length old → Copied n source old (k + 1) (set now k (getD source k d))
-  copy-more d {k} {now} f l h g =
+  pub copy-more : (d : X) {k : ℕ} {new : List X} → Copied n source old k new → k < n → n ≤ length source → n ≤ length old → Copied n source old (k + 1) (set new k (getD source k d))
+  copy-more d {k} {new} f l h g =
       let m : length (take k source) ≡ k = length-take-le k source (omega arith) in
       record {
         most = omega arith;
@@ -36,5 +36,5 @@ module _ {X : Type 0} {n : ℕ} {source old : List X} where
             ∙ ap (λ (j : ℕ). take j source ++ drop j old) (sym (add-one k));
       }
 
-  pub copy-all : {k : ℕ} {now : List X} → Copied n source old k now → n ≤ k → now ≡ take n source ++ drop n old
+  pub copy-all : {k : ℕ} {new : List X} → Copied n source old k new → n ≤ k → new ≡ take n source ++ drop n old
   copy-all {k} f h = f .is ∙ ap (λ (j : ℕ). take j source ++ drop j old) (le-antisymm (f .most) h)

@@ -13,7 +13,7 @@ use Rattle.rules.specs.Step.{eastFace, northFace}
 use Rattle.laws.specs.Lines.{no-end}
 use Rattle.heights.specs.Ways.{across, up, isWall, back, speeds, transfers, forth}
 use Rattle.heights.specs.Places.{FaceIn}
-use Rattle.velocities.specs.Around.{speedAbove, speedBelow, between}
+use Rattle.velocities.specs.Around.{speedAbove, speedBelow, gatheredFace}
 use Rattle.velocities.specs.Faces.{Flowing, AtFace, innerFace}
 
 pub forth-more : (one : Bool) (n : ℕ) → n ≤ forth one n
@@ -65,7 +65,7 @@ picked false m n h = (λ e. absurd (false≢true e), λ e. h)
 
 -- ---- The numbers around an inner face
 
-pub between-is : (c : Card) (g : Field) (w : Water) (east : Bool) (i j : ℕ) → between c g w east i j (forth east i) (forth (not east) j) ≡ innerFace c g w east i j
-unfolding between innerFace eastFace northFace forth speeds transfers speedAbove speedBelow
-between-is c g w true i j = refl
-between-is c g w false i j = refl
+pub gathered-is : (c : Card) (g : Field) (w : Water) (east : Bool) (i j : ℕ) → gatheredFace c g w east i j (forth east i) (forth (not east) j) ≡ innerFace c g w east i j
+unfolding gatheredFace innerFace eastFace northFace forth speeds transfers speedAbove speedBelow
+gathered-is c g w true i j = refl
+gathered-is c g w false i j = refl

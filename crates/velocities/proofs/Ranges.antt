@@ -18,9 +18,9 @@ use Rattle.face.specs.Ranges.{Height, Ground, Speed, Transfer, FaceFits}
 use Rattle.heights.specs.Ways.{speeds, transfers}
 use Rattle.heights.proofs.Sites.{facts, depths, height-fits, speed-fits, crossed}
 use Rattle.heights.specs.Places.{FaceIn}
-use Rattle.velocities.specs.Around.{speedAbove, speedBelow, between}
+use Rattle.velocities.specs.Around.{speedAbove, speedBelow, gatheredFace}
 use Rattle.velocities.specs.Faces.{Flowing, AtFace, innerFace}
-use Rattle.velocities.proofs.Around.{Cell, near-in, far-in, cell-k, cell-l, between-is}
+use Rattle.velocities.proofs.Around.{Cell, near-in, far-in, cell-k, cell-l, gathered-is}
 use Rattle.velocities.proofs.Flows.{sound-of}
 
 -- beside a face stands another one, or a wall
@@ -55,9 +55,9 @@ module _ {c : Card} {g s t : List ℤ} (f : Flowing c g s t) where
   crossed-fits {east} {i} {j} p = crossed (record { sound = sound-of f; limit = f .limit }) east i j p
 
   module _ (east : Bool) {i j iL jL : ℕ} (k : Cell c i j) (l : Cell c iL jL) where
-    between-fits : FaceFits (between c (readGround c g) (readState c s) east i j iL jL)
-    unfolding between speedAbove speedBelow
-    between-fits =
+    gathered-fits : FaceFits (gatheredFace c (readGround c g) (readState c s) east i j iL jL)
+    unfolding gatheredFace speedAbove speedBelow
+    gathered-fits =
         let speed : (m n : ℕ) → Speed (speeds (readState c s) east m n) = speed-fits (sound-of f) east in
         record {
           oldK = old-fits k;
@@ -81,4 +81,4 @@ module _ {c : Card} {g s t : List ℤ} (f : Flowing c g s t) where
         }
 
 pub face-fits : {c : Card} {g s t : List ℤ} {east : Bool} {i j : ℕ} → AtFace c g s t east i j → FaceFits (innerFace c (readGround c g) (readState c s) east i j)
-face-fits {c} {g} {s} {t} {east} {i} {j} a = rw (← between-is c (readGround c g) (readState c s) east i j) (between-fits (a .flowing) east (cell-k a) (cell-l a refl refl))
+face-fits {c} {g} {s} {t} {east} {i} {j} a = rw (← gathered-is c (readGround c g) (readState c s) east i j) (gathered-fits (a .flowing) east (cell-k a) (cell-l a refl refl))

@@ -24,9 +24,9 @@ speedAbove c w east i j = after (cond east (c .rows) (c .columns)) (abreast w ea
 unfoldable pub speedBelow : Water → Bool → Field
 speedBelow w east i j = before (abreast w east i j) (cond east j i)
 
--- the face between cell K at (i, j) and cell L: the near one of L
-unfoldable pub between : Card → Field → Water → Bool → (i j iL jL : ℕ) → Face
-between c g w east i j iL jL = record {
+-- the numbers around the face that lies between cell K at (i, j) and cell L: the near one of L
+unfoldable pub gatheredFace : Card → Field → Water → Bool → (i j iL jL : ℕ) → Face
+gatheredFace c g w east i j iL jL = record {
   oldK = w .height i j;
   oldL = w .height iL jL;
   newK = newHeight c w i j;

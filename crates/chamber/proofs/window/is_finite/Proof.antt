@@ -6,12 +6,12 @@ use Rattle.rules.specs.Search.{isFinite}
 use Rattle.chamber.proofs.window.is_finite.Statement.{statement}
 use Rattle.chamber.proofs.window.is_finite.Tie as tie
 
-between : (x : Float) → (lt (inf true) x && lt x (inf false)) ≡ isFinite x
+finite-is : (x : Float) → (lt (inf true) x && lt x (inf false)) ≡ isFinite x
 unfolding lt
-between nan = refl
-between (inf true) = refl
-between (inf false) = refl
-between (fin s m e) = refl
+finite-is nan = refl
+finite-is (inf true) = refl
+finite-is (inf false) = refl
+finite-is (fin s m e) = refl
 
 float-from-bits-low : tie.Need-float-from-bits-low
 unfolding nanBits
@@ -23,7 +23,7 @@ float-from-bits-high c = tt
 
 returns : tie.Need-returns
 unfolding ofBits
-returns c = between (c .args .x)
+returns c = finite-is (c .args .x)
 
 pub is-finite-spec : {M : Type 1} → statement M
 is-finite-spec = tie.close (tie.spec float-from-bits-low float-from-bits-high returns)

@@ -53,11 +53,11 @@ side-requires c κs = search needs
 
 -- the numbers that were read are those of the definition
 module _ (c : tie.After-side) where
-  abbrev between : tie.Else1
-  between = c .before .before .before .before .before .before
+  abbrev inner : tie.Else1
+  inner = c .before .before .before .before .before .before
 
   abbrev start : tie.Start
-  start = between .before .before
+  start = inner .before .before
 
   abbrev w : Water
   w = readState (start .args .card) (start .args .state .now)
@@ -83,12 +83,12 @@ module _ (c : tie.After-side) where
       let readU = c .before .face-at in
       ap (λ (d : ℕ). transfer (start .args .card .dt) d k l u) (c .side .ensures)
       ∙ rw (word-is (readK .result) (readK .ok) behind, word-is (readL .result) (readL .ok) (readL .ensures), word-is (readU .result) (readU .ok) (readU .ensures))
-      (sym (over-inner _ _ _ _ _ (start .pre .face) (sym (between .before .is-wall .ensures) ∙ between .if1 .left)))
+      (sym (over-inner _ _ _ _ _ (start .pre .face) (sym (inner .before .is-wall .ensures) ∙ inner .if1 .left)))
 
 crossing-requires : tie.Need-crossing-requires
 crossing-requires c κs =
     let p = start c .pre in
-    let b = cells (between c) in
+    let b = cells (inner c) in
     let readK = c .before .before .before .height-at in
     let readL = c .before .before .height-at2 in
     let readU = c .before .face-at in

@@ -5,8 +5,8 @@ use borrow.Author.Needs.{needs}
 use Rattle.laws.specs.Signed.{word-is}
 use Rattle.laws.specs.Places.{height-read}
 use Rattle.heights.proofs.Sites.{facts, face-place}
-use Rattle.velocities.specs.Around.{between}
-use Rattle.velocities.proofs.Around.{Cell, near-in, far-in, cell-k, cell-l, between-is}
+use Rattle.velocities.specs.Around.{gatheredFace}
+use Rattle.velocities.proofs.Around.{Cell, near-in, far-in, cell-k, cell-l, gathered-is}
 use Rattle.velocities.proofs.Flows.{sound-of, ground-in, state-in, tide-in, ground-is, new-is, in-tide, crossed-is}
 use Rattle.velocities.proofs.faces.face.Statement.{statement}
 use Rattle.velocities.proofs.faces.face.Tie as tie
@@ -102,7 +102,7 @@ face-at-requires-6 : tie.Need-face-at-requires-6
 face-at-requires-6 c κs = let d : tie.After-forth2 = tided (c .before .before) in face-place (sound-of (start d .pre .flowing)) (near-in _ (cell-k (start d .pre)))
 
 returns : tie.Need-returns
-unfolding between
+unfolding gatheredFace
 returns c =
     let at-uAhead : tie.After-far4 = c .before in
     let at-u : tie.After-face-at5 = at-uAhead .before in
@@ -125,7 +125,7 @@ returns c =
     let a = start d .args in
     let f = start d .pre .flowing in
     let k = cell-k (start d .pre) in
-    rw (← between-is (a .card) _ _ (a .east) (a .i) (a .j), ← d .before .forth .ensures, ← d .forth2 .ensures)
+    rw (← gathered-is (a .card) _ _ (a .east) (a .i) (a .j), ← d .before .forth .ensures, ← d .forth2 .ensures)
     (λ x. record {
       oldK = word-is (at-oldK .word .result) (at-oldK .word .ok) (at-oldK .word .ensures ∙ height-read (a .card) (a .state .now) (a .i) (a .j)) x;
       oldL = word-is (at-oldL .word2 .result) (at-oldL .word2 .ok) (at-oldL .word2 .ensures ∙ height-read (a .card) (a .state .now) (d .before .forth .result) (d .forth2 .result)) x;
