@@ -1,7 +1,7 @@
 -- What the first three checks say of a card, a ground and a state, as facts that a proof can use.
 use Prim.Native.Nat.{ℕ, suc, _+_, _*_, _≤_, _<_, zero-le}
 use mathlib.Core.Path.{_≡_, refl, ap, _∙_, subst}
-use mathlib.Core.Bool.{Bool, true, false, _&&_, and-assoc, and-self}
+use mathlib.Core.Bool.{Bool, true, false, _&&_, and-assoc, and-comm, and-self}
 use mathlib.Core.List.{List}
 use native.Mathlib.Nat.{mul-le-mul}
 use native.Mathlib.Omega.{arith}
@@ -14,7 +14,7 @@ use lib.Arith.{digits-lt}
 use Rattle.rules.specs.declared.Card.{Card}
 use Rattle.rules.specs.Grid.{all}
 use Rattle.rules.specs.Site.{within, sizesFit, sidesFit, timesFit, cardFits, stateLength, lengthsFit, readGround, readState, groundFits, heightFits, speedFits, groundsFit, heightsFit, velocitiesFit, wallsStill, valuesFit, firstOf, checkAlso, check, checkWith}
-use Rattle.laws.specs.Tests.{and-comm, and-left, and-right, three-of, four-of, to-T, true-of}
+use Rattle.laws.specs.Tests.{and-left, and-right, three-of, four-of, to-T, true-of}
 use Rattle.laws.specs.Grids.{all-at}
 use Rattle.laws.specs.Values.{grounds-flat, depths-flat, faces-flat}
 use Rattle.laws.specs.Checks.{Passed, apart, together, after-card}

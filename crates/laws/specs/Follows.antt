@@ -4,12 +4,12 @@ use mathlib.Core.Path.{_≡_, sym, ap, _∙_}
 use mathlib.Core.List.{List}
 use lib.IntN.{ℤ}
 use Rattle.rules.specs.declared.Tally.{Tally}
-use Rattle.rules.specs.Run.{Step, Outcome, started, runOn, runFrom}
+use Rattle.rules.specs.Run.{Stepping, Outcome, started, runOn, runFrom}
 use Rattle.laws.specs.Runs.{Keeps, further, finished, gone-on, stopped, by-step}
 
 -- from a mapped state the other step has the same number, the next state mapped, and the same greatest height; asked only of states that pass what
 -- an accepted step keeps. Where the map leaves every state as it is, the two steps agree.
-pub record Follows (Passes : List ℤ → Type 0) (map : List ℤ → List ℤ) (step other : Step) : Type 0 where
+pub record Follows (Passes : List ℤ → Type 0) (map : List ℤ → List ℤ) (step other : Stepping) : Type 0 where
   pub kept : Keeps step Passes
   pub numbers : (s : List ℤ) → Passes s → other .number (map s) ≡ step .number s
   pub states : (s : List ℤ) → Passes s → step .number s ≡ 0 → other .next (map s) ≡ map (step .next s)
@@ -19,7 +19,7 @@ pub record Follows (Passes : List ℤ → Type 0) (map : List ℤ → List ℤ) 
 abbrev pub mapped : (List ℤ → List ℤ) → Outcome → Outcome
 mapped map o = record { tally = o .tally; state = map (o .state) }
 
-module _ {Passes : List ℤ → Type 0} {map : List ℤ → List ℤ} {step other : Step} (𝓕 : Follows Passes map step other) where
+module _ {Passes : List ℤ → Type 0} {map : List ℤ → List ℤ} {step other : Stepping} (𝓕 : Follows Passes map step other) where
   runs-on : (n : ℕ) (t : Tally) (s : List ℤ) → Passes s → runOn other n t (map s) ≡ mapped map (runOn step n t s)
   runs-on zero t s p = finished other t (map s) ∙ ap (mapped map) (sym (finished step t s))
   runs-on (suc n) t s p =

@@ -8,9 +8,9 @@ use lib.IntN.{ℤ, pos}
 use Rattle.rules.specs.declared.Card.{Card}
 use Rattle.rules.specs.declared.Tally.{Tally}
 use Rattle.rules.specs.Site.{check}
-use Rattle.rules.specs.Run.{Step, Outcome, started, accepted, stoppedFor, runOn, runFrom, siteStep, runAll, runAfter, run}
+use Rattle.rules.specs.Run.{Stepping, Outcome, started, accepted, stoppedFor, runOn, runFrom, siteStep, runAll, runAfter, run}
 
-module _ (step : Step) where
+module _ (step : Stepping) where
   -- the tally after one accepted step more, from the state s
   abbrev pub further : Tally → List ℤ → Tally
   further t s = accepted t (step .peak (step .next s))
@@ -51,22 +51,22 @@ module _ (step : Step) where
       go (suc r) e = subst P (sym (stopped n t s (suc r) (suc-le-suc zero-le) e)) (off (suc r) (suc-le-suc zero-le) e)
 
 -- what a state passes and an accepted step keeps
-abbrev pub Keeps : Step → (Passes : List ℤ → Type 0) → Type 0
+abbrev pub Keeps : Stepping → (Passes : List ℤ → Type 0) → Type 0
 Keeps step Passes = (s : List ℤ) → Passes s → step .number s ≡ 0 → Passes (step .next s)
 
 -- ---- for a loop: after `done` of `wanted` steps the tally is t and the state s, and the steps that are left lead to the outcome o
-pub record LeadsTo (step : Step) (wanted done : ℕ) (t : Tally) (s : List ℤ) (o : Outcome) : Type 0 where
+pub record LeadsTo (step : Stepping) (wanted done : ℕ) (t : Tally) (s : List ℤ) (o : Outcome) : Type 0 where
   pub leads : runOn step (wanted - done) t s ≡ o
 
 one-less : (wanted done : ℕ) → done < wanted → wanted - done ≡ suc (wanted - (done + 1))
 one-less wanted done h = omega arith
 
 -- it begins so
-pub leads-from : (step : Step) (wanted : ℕ) (s : List ℤ) → LeadsTo step wanted 0 (started (step .peak s)) s (runFrom step wanted s)
+pub leads-from : (step : Stepping) (wanted : ℕ) (s : List ℤ) → LeadsTo step wanted 0 (started (step .peak s)) s (runFrom step wanted s)
 unfolding runFrom
 leads-from step wanted s = record { leads = ap (λ (n : ℕ). runOn step n (started (step .peak s)) s) (omega arith) }
 
-module _ {step : Step} {wanted done : ℕ} {t : Tally} {s : List ℤ} {o : Outcome} where
+module _ {step : Stepping} {wanted done : ℕ} {t : Tally} {s : List ℤ} {o : Outcome} where
   pub leads-on : LeadsTo step wanted done t s o → done < wanted → step .number s ≡ 0 → LeadsTo step wanted (done + 1) (further step t s) (step .next s) o
   leads-on l h e = record { leads = sym (ap (λ (n : ℕ). runOn step n t s) (one-less wanted done h) ∙ gone-on step (wanted - (done + 1)) t s e) ∙ l .leads }
 

@@ -1,19 +1,19 @@
 -- The shape of a sheet: its size and its parts, and what its reader's number 0 says.
 use Prim.Native.Nat.{ℕ, suc, _+_, _*_, _≤_}
 use mathlib.Core.Path.{_≡_, refl, _∙_}
-use mathlib.Core.Bool.{Bool, true, false, cond}
+use mathlib.Core.Bool.{Bool, true, false, cond, and-true}
 use mathlib.Core.List.{List, _++_}
 use native.Mathlib.Nat.{mul-suc, suc-mul, suc-ne-zero}
 use native.Mathlib.Omega.{arith}
 use lib.IntN.{ℤ}
 use lib.ListN.{length, drop, length-append}
 use lib.Dec.{leb, eqb, leb→le, eqb→eq}
+use borrow.Author.Tests.{eq-eqb}
 use Rattle.rules.specs.declared.Card.{Card}
-use Rattle.rules.specs.Site.{cells, stateLength, cardFits, valuesFit, readGround, readState}
+use Rattle.rules.specs.Site.{cells, stateLength, cardFits, lengthsFit, valuesFit, readGround, readState, firstOf, checkAlso}
 use Rattle.rules.specs.Sheet.{bytesOf, numberIn, wordsBytes, sheetSize, header, sheetOf, cardIn, groundIn, stateIn, headFits, sheetLengthsFit, readNumber}
-use Rattle.laws.specs.Tests.{to-T, three-of}
-use Rattle.laws.specs.Checks.{apart}
-use Rattle.laws.specs.Facts.{card-facts}
+use Rattle.laws.specs.Tests.{true-of, to-T, three-of}
+use Rattle.laws.specs.Facts.{card-facts, granted}
 use Rattle.laws.specs.Words.{length-words, length-in}
 
 -- ---- sizes
@@ -80,10 +80,9 @@ passed false x k e = absurd (suc-ne-zero k e)
 pub read-facts : (l : List ℕ) (n m : ℕ) → readNumber l n m ≡ 0 → Read l n m
 unfolding readNumber
 read-facts l n m e =
-    let c = cardIn l in
     let h = passed (headFits l) _ 8 e in
-    let p = apart (cardFits c) (sheetLengthsFit l n m) (valuesFit c (readGround c (groundIn l)) (readState c (stateIn l))) (h .1) in
-    record { head = head-facts l (h .0); card = p .card; sizes = size-facts l n m (p .lengths); values = p .values }
+    let p = granted true (sheetLengthsFit l n m) true (cardIn l) (groundIn l) (stateIn l) (h .1) in
+    record { head = head-facts l (h .0); card = p .sound .card; sizes = size-facts l n m (true-of _ (p .for-2)); values = p .sound .values }
 
 -- the lists that are read have the lengths that the card asks for
 pub length-ground-in : (l : List ℕ) → length (groundIn l) ≡ cardIn l .rows * cardIn l .columns
@@ -93,3 +92,18 @@ length-ground-in l = length-in _ (drop 19 l)
 pub length-state-in : (l : List ℕ) → length (stateIn l) ≡ stateLength (cardIn l)
 unfolding stateIn
 length-state-in l = length-in _ (drop (19 + 4 * cells (cardIn l)) l)
+
+pub read-lengths : (l : List ℕ) → lengthsFit (cardIn l) (groundIn l) (stateIn l) ≡ true
+unfolding lengthsFit
+read-lengths l =
+    rw (
+      eq-eqb (length (groundIn l)) (cells (cardIn l)) (length-ground-in l),
+      eq-eqb (length (stateIn l)) (stateLength (cardIn l)) (length-state-in l),
+    )
+
+-- so for 2 only the sheet's length and those of the lent lists decide
+pub read-number-is : (l : List ℕ) (n m : ℕ)
+    → readNumber l n m
+    ≡ cond (headFits l) (firstOf (cardFits (cardIn l)) (sheetLengthsFit l n m) (valuesFit (cardIn l) (readGround (cardIn l) (groundIn l)) (readState (cardIn l) (stateIn l)))) 9
+unfolding readNumber checkAlso
+read-number-is l n m = rw (read-lengths l, and-true (sheetLengthsFit l n m))

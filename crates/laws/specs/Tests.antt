@@ -1,6 +1,6 @@
 -- Laws of tests that the kit lacks: a test as a truth value and as a fact, and tests joined by `_&&_`.
 use mathlib.Core.Path.{_≡_, refl, sym, ap₂, _∙_, subst}
-use mathlib.Core.Bool.{Bool, true, false, cond, not, _&&_}
+use mathlib.Core.Bool.{Bool, true, false, cond, not, _&&_, and-comm}
 use lib.Dec.{T}
 
 pub both-ways : (a b : Bool) → (T a → T b) → (T b → T a) → a ≡ b
@@ -20,12 +20,6 @@ false-of false t = refl
 pub cond-cong : {A : Type 0} (b : Bool) (x x′ y : A) → (T b → x ≡ x′) → cond b x y ≡ cond b x′ y
 cond-cong true x x′ y h = h tt
 cond-cong false x x′ y h = refl
-
-pub and-comm : (a b : Bool) → (a && b) ≡ (b && a)
-and-comm true true = refl
-and-comm true false = refl
-and-comm false true = refl
-and-comm false false = refl
 
 pub and-cross : {a b a′ b′ : Bool} → a′ ≡ b → b′ ≡ a → (a′ && b′) ≡ (a && b)
 and-cross {a} {b} p q = ap₂ _&&_ p q ∙ and-comm b a

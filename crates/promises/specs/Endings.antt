@@ -5,7 +5,7 @@ use mathlib.Core.List.{List}
 use native.Mathlib.Omega.{arith}
 use lib.IntN.{ℤ}
 use Rattle.rules.specs.declared.Tally.{Tally}
-use Rattle.rules.specs.Run.{Step, Outcome, started, accepted, stoppedFor, runOn, runFrom}
+use Rattle.rules.specs.Run.{Stepping, Outcome, started, accepted, stoppedFor, runOn, runFrom}
 use Rattle.laws.specs.Runs.{Keeps, further, finished, by-step}
 
 -- how a run ends that wants so many steps in all: its end state passes, its reason is 0 or the number of a step, and its steps and reason agree
@@ -17,12 +17,12 @@ pub record EndsAs (Passes : List ℤ → Type 0) (OfAStep : ℕ → Type 0) (wan
   pub onlyThen : o .tally .steps ≡ wanted → o .tally .reason ≡ 0
 
 -- what that asks of the step: an accepted one leads from a state that passes to one that passes, and every number that it has is the number of a step
-pub record Proper (step : Step) (Passes : List ℤ → Type 0) (OfAStep : ℕ → Type 0) : Type 0 where
+pub record Proper (step : Stepping) (Passes : List ℤ → Type 0) (OfAStep : ℕ → Type 0) : Type 0 where
   pub kept : Keeps step Passes
   pub numbers : (s : List ℤ) → OfAStep (step .number s)
   pub done : OfAStep 0
 
-module _ {step : Step} {Passes : List ℤ → Type 0} {OfAStep : ℕ → Type 0} (𝓟 : Proper step Passes OfAStep) (wanted : ℕ) where
+module _ {step : Stepping} {Passes : List ℤ → Type 0} {OfAStep : ℕ → Type 0} (𝓟 : Proper step Passes OfAStep) (wanted : ℕ) where
   abbrev FromHere : ℕ → Type 0
   FromHere n = (t : Tally) (s : List ℤ) → t .steps + n ≡ wanted → t .reason ≡ 0 → Passes s → EndsAs Passes OfAStep wanted (runOn step n t s)
 

@@ -1,14 +1,13 @@
 -- Two waters of which one is the other turned east for west: their checks and their steps have the same numbers.
 use Prim.Native.Nat.{suc, _-_}
 use mathlib.Core.Path.{_≡_, ap₂}
-use mathlib.Core.Bool.{_&&_}
+use mathlib.Core.Bool.{_&&_, and-comm}
 use native.Mathlib.Omega.{arith}
 use Rattle.rules.specs.declared.Card.{Card}
 use Rattle.rules.specs.Grid.{Field}
 use Rattle.rules.specs.Site.{Water, isZero, groundsFit, heightsFit, velocitiesFit, wallsStill, valuesFit}
 use Rattle.rules.specs.Step.{Rule, withinLimit, eastFace, northFace, newEast, limitKept, newHeightsFit, sharesFit, newVelocitiesFit, number}
 use Rattle.rules.proofs.Fair.{share-by-ends, share-by-sides, Fair}
-use Rattle.laws.specs.Tests.{and-comm}
 use Rattle.laws.specs.Numbers.{abs-neg}
 use Rattle.laws.specs.Grids.{allAt-mirror, all-mirror, all-same}
 use Rattle.promises.specs.Mirror as M

@@ -8,7 +8,7 @@ use lib.ListN.{length}
 use Rattle.rules.specs.declared.Card.{Card}
 use Rattle.rules.specs.Site.{checkWith, firstRefusal, ifDone}
 use Rattle.rules.specs.Step.{stepNumber, nextState}
-use Rattle.rules.specs.Run.{Step, Outcome, started, accepted, stoppedFor, runFrom, siteStep, runAll, runAfter}
+use Rattle.rules.specs.Run.{Stepping, Outcome, started, accepted, stoppedFor, runFrom, siteStep, runAll, runAfter}
 use Rattle.rules.specs.Calls.{stepAnswer, stepNext, runOutcome, runTally, runState}
 use Rattle.laws.specs.Outcomes.{if-done, if-refused, if-same}
 use Rattle.laws.specs.Runs.{further, finished, by-step}
@@ -22,7 +22,7 @@ pub record Once (number : ℕ) (made s : List ℤ) (o : Outcome) : Type 0 where
   pub steps : o .tally .steps ≡ ifDone number 1 0
   pub state : o .state ≡ ifDone number made s
 
-pub once : (step : Step) (s : List ℤ) → Once (step .number s) (step .next s) s (runFrom step 1 s)
+pub once : (step : Stepping) (s : List ℤ) → Once (step .number s) (step .next s) s (runFrom step 1 s)
 unfolding runFrom started accepted stoppedFor
 once step s =
     by-step step 0 (started (step .peak s)) s (Once (step .number s) (step .next s) s)

@@ -6,7 +6,7 @@ use native.Mathlib.Omega.{arith}
 use lib.IntN.{ℤ}
 use Rattle.rules.specs.declared.Card.{Card}
 use Rattle.rules.specs.Site.{check}
-use Rattle.rules.specs.Run.{Step, Outcome, runFrom, siteStep, run}
+use Rattle.rules.specs.Run.{Stepping, Outcome, runFrom, siteStep, run}
 use Rattle.laws.specs.Facts.{check-facts}
 use Rattle.laws.specs.Runs.{begun}
 use Rattle.promises.specs.StepsWanted.{wanting, same-step, same-check}
@@ -24,12 +24,12 @@ same-second o p q e = go (o .tally .reason)
 
 module _ (c : Card) (g s : List ℤ) (m n : ℕ) where
   -- the whole run's step
-  abbrev step : Step
+  abbrev step : Stepping
   step = siteStep (wanting c (m + n)) g
 
   -- a run that wants k steps, by that step
   as-part : (k : ℕ) (v : List ℤ) → check (wanting c k) g v ≡ 0 → run (wanting c k) g v ≡ runFrom step k v
-  as-part k v e = begun (wanting c k) g v e ∙ ap (λ (x : Step). runFrom x k v) (same-step c k (m + n) g)
+  as-part k v e = begun (wanting c k) g v e ∙ ap (λ (x : Stepping). runFrom x k v) (same-step c k (m + n) g)
 
   pub site-in-slices : check (wanting c (m + n)) g s ≡ 0 → run (wanting c (m + n)) g s ≡ joined (run (wanting c m) g s) (run (wanting c n) g)
   site-in-slices e =

@@ -10,7 +10,7 @@ use lib.Signed.{leZ}
 use lib.Dec.{T}
 use Rattle.rules.specs.declared.Tally.{Tally}
 use Rattle.rules.specs.Grid.{maxZ}
-use Rattle.rules.specs.Run.{Step, Outcome, started, accepted, stoppedFor, runOn, runFrom}
+use Rattle.rules.specs.Run.{Stepping, Outcome, started, accepted, stoppedFor, runOn, runFrom}
 use Rattle.laws.specs.Numbers.{leZ-refl}
 use Rattle.laws.specs.Grids.{max-right}
 use Rattle.laws.specs.Maxima.{max-absorbs, max-assoc}
@@ -42,7 +42,7 @@ accepted-both a t h =
     let top : accepted (bothTallies a t) h .top ≡ bothTallies a (accepted t h) .top = cc (max-assoc (a .top) (t .top) h) in
     λ x. record { steps = steps x; reason = bothTallies a t .reason; top = top x }
 
-carried-along : (step : Step) (a : Tally) (n : ℕ) (t : Tally) (s : List ℤ) → runOn step n (bothTallies a t) s ≡ bothRuns a (runOn step n t s)
+carried-along : (step : Stepping) (a : Tally) (n : ℕ) (t : Tally) (s : List ℤ) → runOn step n (bothTallies a t) s ≡ bothRuns a (runOn step n t s)
 unfolding bothRuns bothTallies stoppedFor
 carried-along step a zero t s = finished step (bothTallies a t) s ∙ ap (bothRuns a) (sym (finished step t s))
 carried-along step a (suc n) t s =
@@ -67,7 +67,7 @@ unfolding joinedAfter
 no-second zero h first second = absurd (not-suc-le-zero h)
 no-second (suc r) h first second = refl
 
-module _ (step : Step) (n : ℕ) where
+module _ (step : Stepping) (n : ℕ) where
   -- no step before it; the top is at least the greatest height that stands
   none-before : (t : Tally) (s : List ℤ) → t .reason ≡ 0 → T (leZ (step .peak s) (t .top))
       → runOn step n t s ≡ joined (record { tally = t; state = s }) (runFrom step n)
@@ -93,6 +93,6 @@ module _ (step : Step) (n : ℕ) where
       ∙ some-before m (further step t s) (step .next s) z (max-right (t .top) (step .peak (step .next s))))
       (λ r p e. stopped step (m + n) t s r p e ∙ sym (no-second r p (record { tally = stoppedFor t r; state = s }) (runFrom step n)))
 
-pub in-slices : (step : Step) (m n : ℕ) (s : List ℤ) → runFrom step (m + n) s ≡ joined (runFrom step m s) (runFrom step n)
+pub in-slices : (step : Stepping) (m n : ℕ) (s : List ℤ) → runFrom step (m + n) s ≡ joined (runFrom step m s) (runFrom step n)
 unfolding runFrom started
 in-slices step m n s = some-before step n m (started (step .peak s)) s refl (leZ-refl (step .peak s))

@@ -1,5 +1,6 @@
 -- Axes swapped: one step of the turned site is the step turned, and the turn taken twice gives the site back.
 use mathlib.Core.Path.{_≡_, refl, sym, _∙_}
+use mathlib.Core.Bool.{and-comm}
 use mathlib.Core.List.{List}
 use lib.IntN.{ℤ}
 use Rattle.rules.specs.declared.Card.{Card}
@@ -7,7 +8,6 @@ use Rattle.rules.specs.Site.{within, sizesFit, sidesFit, timesFit, cardFits, re
 use Rattle.rules.specs.Step.{newVelocity, next, stepNumberBy, stepNumber, nextStateBy, nextState}
 use Rattle.rules.specs.Run.{peak}
 use Rattle.rules.specs.Turn.{swapAxes, swapCard}
-use Rattle.laws.specs.Tests.{and-comm}
 use Rattle.laws.specs.Grids.{length-grid, grid-same}
 use Rattle.laws.specs.States.{height-back, east-back, north-back, ground-back, write-same, peak-same, write-read, grid-read}
 use Rattle.laws.specs.Facts.{check-sound, sound-check}

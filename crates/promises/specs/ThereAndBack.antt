@@ -12,13 +12,13 @@ use borrow.Author.Tests.{ltb-true, ltb-false, le-leb, eq-eqb}
 use mir.Syntax.{w32}
 use mir.Val.{SFits}
 use Rattle.rules.specs.declared.Card.{Card}
-use Rattle.rules.specs.Site.{cells, stateLength, lengthsFit, firstOf, check}
+use Rattle.rules.specs.Site.{cells, stateLength, firstOf, check}
 use Rattle.rules.specs.Sheet.{Bytes, bytesOf, numberIn, wordsBytes, wordsIn, sheetSize, header, sheetOf, cardIn, groundIn, stateIn, headFits, sheetLengthsFit, readNumber}
 use Rattle.laws.specs.Facts.{Fits, check-sound, sound-check}
 use Rattle.laws.specs.Exact.{sfits}
 use Rattle.laws.specs.Bytes.{bytes-drop, number-bytes, bytes-number}
 use Rattle.laws.specs.Words.{Words, length-words, words-read, words-write}
-use Rattle.laws.specs.Sheets.{size-words, length-sheet, Read, length-ground-in, length-state-in}
+use Rattle.laws.specs.Sheets.{size-words, length-sheet, Read, read-lengths, read-number-is}
 
 -- ---- a sheet that was read writes back
 
@@ -70,12 +70,7 @@ module _ (l : List ℕ) (b : Bytes l) where
 
 -- and what was read passes the first three checks
 pub read-checks : (l : List ℕ) (n m : ℕ) → Read l n m → check (cardIn l) (groundIn l) (stateIn l) ≡ 0
-unfolding lengthsFit
-read-checks l n m r =
-    let c = cardIn l in
-    let p : lengthsFit c (groundIn l) (stateIn l) ≡ true =
-    rw (eq-eqb (length (groundIn l)) (cells c) (length-ground-in l), eq-eqb (length (stateIn l)) (stateLength c) (length-state-in l)) in
-    sound-check c (groundIn l) (stateIn l) (record { card = r .card; lengths = p; values = r .values })
+read-checks l n m r = sound-check (cardIn l) (groundIn l) (stateIn l) (record { card = r .card; lengths = read-lengths l; values = r .values })
 
 -- ---- a written sheet reads back
 
@@ -162,7 +157,7 @@ module _ (c : Card) (g s : List ℤ) (f : Fits c g s) where
 
   -- its reader can refuse nothing but the lengths of the lists that it is lent
   pub number-back : check c g s ≡ 0 → (n m : ℕ) → readNumber sheet n m ≡ cond (eqb n (length g) && eqb m (length s)) 0 2
-  unfolding readNumber headFits sheetLengthsFit
+  unfolding headFits sheetLengthsFit
   number-back e n m =
       let p = check-sound c g s e in
       let long : 19 ≤ length sheet = omega (arith, length-sheet c g s) in
@@ -171,4 +166,4 @@ module _ (c : Card) (g s : List ℤ) (f : Fits c g s) where
       let h₂ = eq-eqb (numberIn 4 sheet) (length sheet) named in
       let h₃ = eq-eqb (numberIn 1 (drop 4 sheet)) 1 version-back in
       let h₄ = eq-eqb (length sheet) (sheetSize (cardIn sheet)) size-back in
-      rw (h₁, h₂, h₃, h₄, cells-back, length-back, card-back, ground-back, state-back, p .card, p .values) (by-lengths (eqb n (length g) && eqb m (length s)))
+      rw (read-number-is sheet n m, h₁, h₂, h₃, h₄, cells-back, length-back, card-back, ground-back, state-back, p .card, p .values) (by-lengths (eqb n (length g) && eqb m (length s)))

@@ -1,6 +1,6 @@
 -- Document 01, "Calls and their numbers": of every public call, what it returns and what each lent list holds at exit, for every input.
--- Of the first three checks `firstOf` gives the lowest number that applies; `firstRefusal` puts a later number behind them; `ifDone` says what is left where
--- the number is 0, and where not (Site.antt).
+-- `checkAlso` and its instances `check` and `checkWith` give the lowest number of the first three checks that applies; `firstRefusal` puts a later number behind
+-- it; `ifDone` says what is left where the number is 0, and where not (Site.antt).
 use Prim.Native.Nat.{ℕ}
 use mathlib.Core.Bool.{true, cond}
 use mathlib.Core.List.{List, [], _++_}
@@ -44,6 +44,7 @@ runScratch c g s scratch = ifDone (checkWith c g s (length scratch)) (replicate 
 
 -- ---- Search: done: the count, the first count places filled, the rest as lent. 8: the count needed, list as lent. 1 to 3: count 0, list as lent.
 
+-- each definition below takes these seven first, in this order
 module _ (c : Card) (ground state xs ys : List ℤ) (w : Window) (depth : ℤ) where
   -- the first three checks; for 2 the register is looked at too, and for 3 what is asked
   unfoldable pub searchCheck : ℕ

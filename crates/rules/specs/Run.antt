@@ -29,8 +29,8 @@ stoppedFor t k = record { steps = t .steps; reason = k; top = t .top }
 
 -- ---- a run, over any step
 
--- a step as a run sees it: the number of a state's step, the next state where that is 0, and the greatest height of a state
-pub record Step : Type 0 where
+-- stepping, as a run sees it: the number of a state's step, the next state where that is 0, and the greatest height of a state
+pub record Stepping : Type 0 where
   pub number : List ℤ → ℕ
   pub next : List ℤ → List ℤ
   pub peak : List ℤ → ℤ
@@ -41,7 +41,7 @@ pub record Outcome : Type 0 where
   pub state : List ℤ
 
 -- at most n steps more, from a state that was reached with the tally t
-unfoldable pub runOn : Step → ℕ → Tally → (state : List ℤ) → Outcome
+unfoldable pub runOn : Stepping → ℕ → Tally → (state : List ℤ) → Outcome
 runOn step zero t s = record { tally = t; state = s }
 runOn step (suc n) t s =
     elim (step .number s) [
@@ -50,13 +50,13 @@ runOn step (suc n) t s =
     ]
 
 -- at most n steps, from the starting state
-unfoldable pub runFrom : Step → ℕ → (state : List ℤ) → Outcome
+unfoldable pub runFrom : Stepping → ℕ → (state : List ℤ) → Outcome
 runFrom step n s = runOn step n (started (step .peak s)) s
 
 -- ---- a site's run
 
 -- the step of a site with this card and this ground
-abbrev pub siteStep : Card → (ground : List ℤ) → Step
+abbrev pub siteStep : Card → (ground : List ℤ) → Stepping
 siteStep c g = record { number = stepNumber c g; next = nextState c g; peak = peak c }
 
 -- the run of a site that passes the first three checks

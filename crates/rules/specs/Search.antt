@@ -64,13 +64,14 @@ listOf c s w depth xs ys = places (length xs) (listedAt c s w depth xs ys)
 unfoldable pub registerFits : (xs ys : List ℤ) → Bool
 registerFits xs ys = eqb (length xs) (length ys) && leb (length xs) 1000
 
--- refusal 3: a chamber outside the site, a depth out of range, or a window edge not finite
+-- along one axis a chamber lies from 0 to the far end, both included
 abbrev pub alongFits : (far : ℕ) → ℤ → Bool
 alongFits far x = leZ (pos 0) x && leZ x (pos far)
 
 abbrev pub allAlong : (far : ℕ) → List ℤ → Bool
 allAlong far xs = all (length xs) (λ k. alongFits far (getD xs k (pos 0)))
 
+-- refusal 3: a chamber outside the site, a depth out of range, or a window edge not finite
 unfoldable pub askedFits : Card → (xs ys : List ℤ) → Window → (depth : ℤ) → Bool
 askedFits c xs ys w depth =
     allAlong (c .columns * c .dx) xs && allAlong (c .rows * c .dy) ys && heightFits depth && edgesFinite w

@@ -1,17 +1,17 @@
 -- Document 01, "The site sheet": the bytes of a site, and what is read of some bytes.
 use Prim.Native.Nat.{ℕ, zero, suc, _+_, _*_, _/_, _%_, _<_}
-use mathlib.Core.Bool.{Bool, cond, _&&_}
+use mathlib.Core.Bool.{Bool, true, cond, _&&_}
 use mathlib.Core.List.{List, [], _∷_, _++_}
 use lib.ListN.{length, getD, drop}
 use lib.IntN.{ℤ, pos, natAbs, _+ℤ_, _-ℤ_}
 use lib.Signed.{leZ}
 use lib.Dec.{ltb, leb, eqb}
 use Rattle.rules.specs.declared.Card.{Card}
-use Rattle.rules.specs.Site.{cells, stateLength, readGround, readState, cardFits, valuesFit, firstOf}
+use Rattle.rules.specs.Site.{cells, stateLength, checkAlso}
 
 -- ---- Numbers and words as bytes, big-endian
 
--- the bytes given, a list of numbers: each of them is below 256
+-- the bytes given, a list of numbers: each of them is below 256 (only promises ask for it; a slice of bytes has it)
 pub record Bytes (l : List ℕ) : Type 0 where
   pub below : (i : ℕ) → getD l i 0 < 256
 
@@ -24,7 +24,8 @@ unfoldable pub numberIn : (k : ℕ) → List ℕ → ℕ
 numberIn zero l = 0
 numberIn (suc k) l = numberIn k l * 256 + getD l k 0
 
--- a word in two's complement: a z that is not negative is written as itself, a negative z as 2^32 + z; so a number from 2^31 on stands for itself less 2^32
+-- a word in two's complement: a z that is not negative is written as itself, a negative z as 2^32 + z (of a 32-bit word neither is below 0, and `natAbs` only
+-- makes a natural number of it); so a number from 2^31 on stands for itself less 2^32
 unfoldable pub bitsOf : ℤ → ℕ
 bitsOf z = natAbs (cond (leZ (pos 0) z) z (pos 4294967296 +ℤ z))
 
@@ -86,12 +87,9 @@ headFits l = leb 19 (length l) && eqb (numberIn 4 l) (length l) && eqb (numberIn
 unfoldable pub sheetLengthsFit : List ℕ → (n m : ℕ) → Bool
 sheetLengthsFit l n m = eqb (length l) (sheetSize (cardIn l)) && eqb n (cells (cardIn l)) && eqb m (stateLength (cardIn l))
 
--- the reader's number: 9 first, then 1, 2 and 3
+-- the reader's number: 9 first, then 1, 2 and 3 of the site that stands in the bytes
 unfoldable pub readNumber : List ℕ → (n m : ℕ) → ℕ
-readNumber l n m =
-    cond (headFits l)
-    (firstOf (cardFits (cardIn l)) (sheetLengthsFit l n m) (valuesFit (cardIn l) (readGround (cardIn l) (groundIn l)) (readState (cardIn l) (stateIn l))))
-    9
+readNumber l n m = cond (headFits l) (checkAlso true (sheetLengthsFit l n m) true (cardIn l) (groundIn l) (stateIn l)) 9
 
 abbrev pub noCard : Card
 noCard = record { columns = 0; rows = 0; dx = 0; dy = 0; dt = 0; steps = 0 }

@@ -12,8 +12,8 @@ use Rattle.rules.specs.Text.{digitsOf, decimal, heightText, depthText}
 use Rattle.rules.specs.Calls.{stepAnswer, stepNext}
 
 -- sides 1,000,000 and dt 100; one row
-unfoldable pub row : (columns : ℕ) → Card
-row columns = record { columns = columns; rows = 1; dx = 1000000; dy = 1000000; dt = 100; steps = 1 }
+unfoldable pub oneRow : (columns : ℕ) → Card
+oneRow columns = record { columns = columns; rows = 1; dx = 1000000; dy = 1000000; dt = 100; steps = 1 }
 
 -- flat ground 0 of so many cells
 unfoldable pub flat : ℕ → List ℤ
@@ -29,11 +29,11 @@ three a b c = a ∷ b ∷ c ∷ flat 10
 
 -- a row of the table, where the list that is lent for the next state holds the state itself: the step is accepted, and leaves this state there
 abbrev pub Steps : (columns : ℕ) (ground state then : List ℤ) → Type 0
-Steps columns g s then = (stepAnswer (row columns) g s s ≡ 0) × (stepNext (row columns) g s s ≡ then)
+Steps columns g s then = (stepAnswer (oneRow columns) g s s ≡ 0) × (stepNext (oneRow columns) g s s ≡ then)
 
 -- the step is refused with this number, and leaves the list as it was lent
 abbrev pub Refuses : (columns : ℕ) (ground state : List ℤ) (number : ℕ) → Type 0
-Refuses columns g s k = (stepAnswer (row columns) g s s ≡ k) × (stepNext (row columns) g s s ≡ s)
+Refuses columns g s k = (stepAnswer (oneRow columns) g s s ≡ k) × (stepNext (oneRow columns) g s s ≡ s)
 
 pub record Starred : Type 0 where
   -- two heights, still: heights stay, the middle velocity is 980,665; and the second step
@@ -56,7 +56,7 @@ pub record Starred : Type 0 where
   pub text-15000 : depthText (pos 15000) ≡ 50 ∷ 32 ∷ 99 ∷ 109 ∷ []
 
 pub starred : Starred
-unfolding row flat two three tabulate grid all allAt greatest readGround readState writeState stateLength sizesFit sidesFit timesFit cardFits lengthsFit groundsFit heightsFit velocitiesFit wallsStill valuesFit firstOf checkAlso checkWith firstRefusal ifDone walled transfer eastTransfer northTransfer withinLimit newHeight after before eastFace northFace outAhead outBehind outAbove outBelow positive ownShare brought carried rise slope newVelocity newEast newNorth next limitKept newHeightsFit sharesFit newVelocitiesFit answer number stepNumberBy nextStateBy stepNumber nextState digitsOf decimal heightText depthText stepAnswer stepNext
+unfolding oneRow flat two three tabulate grid all allAt greatest readGround readState writeState stateLength sizesFit sidesFit timesFit cardFits lengthsFit groundsFit heightsFit velocitiesFit wallsStill valuesFit firstOf checkAlso checkWith firstRefusal ifDone walled transfer eastTransfer northTransfer withinLimit newHeight after before eastFace northFace outAhead outBehind outAbove outBelow positive ownShare brought carried rise slope newVelocity newEast newNorth next limitKept newHeightsFit sharesFit newVelocitiesFit answer number stepNumberBy nextStateBy stepNumber nextState digitsOf decimal heightText depthText stepAnswer stepNext
 starred = record {
   first-step = (refl, refl);
   second-step = (refl, refl);

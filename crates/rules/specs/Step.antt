@@ -19,7 +19,7 @@ walled n f (suc k) = cond (ltb (suc k) n) (f k) (pos 0)
 
 -- ---- Transfer: what crosses a face in one step, (10) with its upwind choice
 
--- the sign of u, and the size floor(h · |u| · dt / (1000 · d)), h being K's height if u > 0, L's if u < 0
+-- the sign of u, and the size floor(h · |u| · dt / (1000 · d)), h being K's height if u > 0, L's if u < 0; d is dx for an eastward face, dy for a northward one
 unfoldable pub transfer : (dt d : ℕ) (hK hL u : ℤ) → ℤ
 transfer dt d hK hL (pos zero) = pos 0
 transfer dt d hK hL (pos (suc n)) = pos (natAbs hK * suc n * dt / (1000 * d))
@@ -57,10 +57,11 @@ newHeight c w i j =
 --                   belowK    belowL
 --                        uBelow
 --
+-- Drawn for an eastward face; a northward one is this mirrored on the diagonal, L north of K and `above` in the east.
 -- `own`, `ahead`, `behind`, `aboveK` .. `belowL` are what crosses the faces drawn; `u`, `uAhead`, `uBehind`, `uAbove`, `uBelow` are the velocities of the face
 -- and of its parallel faces.
 
--- of f in each row (or column) of n: that after j, and that before j; beyond a side wall there is no face, and 0
+-- f one row (or column) on from j, of n in all, and f one back from j; beyond a side wall there is none, and 0 stands for it
 unfoldable pub after : ℕ → (ℕ → ℤ) → ℕ → ℤ
 after n f j = cond (ltb (suc j) n) (f (suc j)) (pos 0)
 
@@ -198,7 +199,7 @@ limitKept c w = allAt (c .columns) (c .rows) (withinLimit c w)
 unfoldable pub newHeightsFit : Card → Water → Bool
 newHeightsFit c w = allAt (c .columns) (c .rows) (λ i j. leZ (newHeight c w i j) (pos 50000000))
 
--- 6: some own share is negative
+-- 6: some own share is negative; inner faces are counted by their cell K, one fewer than columns or rows
 unfoldable pub sharesFit : Card → Field → Water → Bool
 sharesFit c g w =
     allAt (c .columns - 1) (c .rows) (λ i j. leZ (pos 0) (ownShare (eastFace c g w i j)))

@@ -1,11 +1,12 @@
 -- The number that a sheet's reader gives before it looks at any value, and how it stands to the reader's number.
 use Prim.Native.Nat.{ℕ, suc}
-use mathlib.Core.Path.{_≡_, refl, _∙_}
+use mathlib.Core.Path.{_≡_, refl, sym, _∙_}
 use mathlib.Core.Bool.{Bool, true, false, cond}
 use mathlib.Core.List.{List}
 use native.Mathlib.Nat.{suc-ne-zero}
 use Rattle.rules.specs.Site.{cardFits, firstOf}
 use Rattle.rules.specs.Sheet.{cardIn, headFits, sheetLengthsFit, readNumber}
+use Rattle.laws.specs.Sheets.{read-number-is}
 
 -- 9, 1 or 2, and 0 where the values decide
 unfoldable pub frontNumber : List ℕ → (n m : ℕ) → ℕ
@@ -47,8 +48,8 @@ module _ (l : List ℕ) (n m : ℕ) where
       go true true true p q r e = record { head = p; card = q; lengths = r }
 
   pub front-refused : (frontNumber l n m ≡ 0 → ⊥) → frontNumber l n m ≡ readNumber l n m
-  unfolding frontNumber readNumber firstOf
-  front-refused h = go (headFits l) (cardFits (cardIn l)) (sheetLengthsFit l n m) _ h
+  unfolding frontNumber firstOf
+  front-refused h = go (headFits l) (cardFits (cardIn l)) (sheetLengthsFit l n m) _ h ∙ sym (read-number-is l n m)
     where
       go : (a b d v : Bool) → (cond a (firstOf b d true) 9 ≡ 0 → ⊥) → cond a (firstOf b d true) 9 ≡ cond a (firstOf b d v) 9
       go false b d v h = refl

@@ -18,7 +18,7 @@ use Rattle.laws.specs.Facts.{Sized, card-facts}
 use Rattle.laws.specs.Outcomes.{if-refused, if-same}
 use Rattle.laws.specs.Parts.{back-length}
 use Rattle.laws.specs.Words.{in-add}
-use Rattle.laws.specs.Sheets.{size-words, size-facts, read-facts, length-ground-in}
+use Rattle.laws.specs.Sheets.{size-words, size-facts, read-facts, length-ground-in, read-number-is}
 use Rattle.sheet.specs.Front.{frontNumber, Front, front-facts}
 use Rattle.sheet_reader.specs.Values.{sheetValuesFit}
 use Rattle.sheet_reader.specs.Lent.{Joined, WordsRoom, Decided}
@@ -27,12 +27,12 @@ use Rattle.sheet_reader.specs.Lent.{Joined, WordsRoom, Decided}
 
 module _ (l : List ℕ) (n m : ℕ) (f : Front l n m) where
   pub number-3 : sheetValuesFit l ≡ false → 3 ≡ readNumber l n m
-  unfolding readNumber firstOf sheetValuesFit
-  number-3 v = rw (f .head, f .card, f .lengths, v)
+  unfolding firstOf sheetValuesFit
+  number-3 v = rw (read-number-is l n m, f .head, f .card, f .lengths, v)
 
   pub number-0 : sheetValuesFit l ≡ true → 0 ≡ readNumber l n m
-  unfolding readNumber firstOf sheetValuesFit
-  number-0 v = rw (f .head, f .card, f .lengths, v)
+  unfolding firstOf sheetValuesFit
+  number-0 v = rw (read-number-is l n m, f .head, f .card, f .lengths, v)
 
   -- how many bytes and words there are
   pub long : length l ≡ 19 + 4 * (n + m)
