@@ -2,8 +2,8 @@
 use borrow.Author.Needs.{needs}
 use mathlib.Core.Path.{_≡_, _∙_}
 use mathlib.Core.List.{List}
-use Prim.Native.Nat.{_+_, _*_}
-use native.Mathlib.Nat.{suc-mul}
+use Prim.Native.Nat.{ℕ, _+_, _*_, _≤_}
+use native.Mathlib.Nat.{suc-mul, mul-le-mul, le-refl}
 use native.Mathlib.Omega.{arith}
 use lib.IntN.{ℤ}
 use lib.ListN.{length}
@@ -19,6 +19,10 @@ use Rattle.values.proofs.walls_still.Tie as tie
 words : (c : Card) (s : List ℤ) → Whole c s → length s ≡ c .rows * c .columns + (c .rows * (c .columns + 1) + (c .rows * c .columns + c .columns))
 unfolding stateLength
 words c s w = w .words ∙ omega (arith, suc-mul (c .rows) (c .columns))
+
+-- there is a row
+a-row : (c : Card) {s : List ℤ} → Whole c s → (n : ℕ) → 1 * n ≤ c .rows * n
+a-row c w n = mul-le-mul (card-facts c (w .card) .rows-low) (le-refl n)
 
 cast-columns : tie.Need-cast-columns
 cast-columns c = search needs
@@ -49,6 +53,7 @@ pairs-still-requires c κs =
     let o = c .before .before in
     let n = o .args .card .columns in
     let l = words (o .args .card) (o .args .state .now) (o .pre) in
+    let row = a-row (o .args .card) (o .pre) (n + 1) in
     record { one = λ k h. omega (arith, digits-lt {r = 0} {c = n + 1} h (omega arith)); two = λ k h. omega (arith, digits-lt {r = n} {c = n + 1} h (omega arith)) }
 
 add-pairs-still-3 : tie.Need-add-pairs-still-3
@@ -58,6 +63,7 @@ pairs-still-requires-2 : tie.Need-pairs-still-requires-2
 pairs-still-requires-2 c κs =
     let o = c .before .before .before in
     let l = words (o .args .card) (o .args .state .now) (o .pre) in
+    let row = a-row (o .args .card) (o .pre) (o .args .card .columns) in
     record { one = λ k h. omega arith; two = λ k h. omega arith }
 
 returns : tie.Need-returns
