@@ -6,7 +6,8 @@
 //!
 //! # Stack
 //!
-//! What a call takes, in bytes, where the archive is `rt`'s for x86-64 (a thread takes some for itself besides):
+//! What a call takes, in bytes, where the archive is `rt`'s for x86-64 (a thread takes some for itself besides, and so
+//! does a loader that binds memcpy and memset only when they are first called):
 //!
 //! | call | any input | small site | refused |
 //! |---|---|---|---|

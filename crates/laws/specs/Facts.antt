@@ -205,10 +205,6 @@ sound-check c g s sound = together sound
 pub check-facts : (c : Card) (g s : List ℤ) → check c g s ≡ 0 → Fits c g s
 check-facts c g s e = sound-facts c g s (check-sound c g s e)
 
--- the card by itself
-pub check-card : (c : Card) (g s : List ℤ) → check c g s ≡ 0 → cardFits c ≡ true
-check-card c g s e = check-sound c g s e .card
-
 -- where one more list is lent
 pub check-with-sound : (c : Card) (g s : List ℤ) (room : ℕ) → checkWith c g s room ≡ 0 → Sound c g s
 unfolding checkWith

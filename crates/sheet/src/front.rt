@@ -54,8 +54,8 @@ pub fn front_number(sheet: &[u8], n: usize, m: usize) -> u32
     let fits = (sheet.len() == size::sheet_size(card))
         & (n == card::cells(card))
         & (m == card::state_length(card));
-    if !fits {
-        return 2;
+    if fits {
+        return 0;
     }
-    0
+    2
 }

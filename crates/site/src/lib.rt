@@ -5,7 +5,8 @@ ghost use Rattle.rules.specs.Site.{cardFits, lengthsFit, checkAlso, check as Si
 ghost use Rattle.site.specs.Front.{frontAlso};
 use rules::Card;
 
-pub fn lengths_fit(card: Card, ground: &[i32], state: &[i32]) -> bool
+// Whether ground and state have the lengths that the card asks for.
+fn lengths_fit(card: Card, ground: &[i32], state: &[i32]) -> bool
     requires { ⌜ cardFits card ≡ true ⌝ }
     ensures { λ r. ⌜ r ≡ lengthsFit card (now (ground .entry)) (now (state .entry)) ⌝ }
 {

@@ -1,4 +1,5 @@
 use mathlib.Core.Path.{_≡_, sym, ap, _∙_}
+use native.Mathlib.Omega.{arith}
 use Rattle.rules.specs.Site.{cells, stateLength}
 use Rattle.rules.specs.Sheet.{cardIn, readNumber}
 use Rattle.rules.specs.Play.{ownNumber}
@@ -13,7 +14,7 @@ own : (e : tie.Else2) → readNumber (e .before .before .before .before .args .i
 own e = sym (e .before .own-number .ensures) ∙ e .if2 .left
 
 returns : tie.Need-returns
-returns c = number-long (c .before .before .args .input .now) (c .if1 .taken)
+returns c = number-long (c .before .before .args .input .now) (omega (arith, c .if1 .taken))
 
 own-number-requires : tie.Need-own-number-requires
 own-number-requires c κs = search needs

@@ -32,6 +32,13 @@ pub fn bad(side: u32) -> Wild {
     site
 }
 
+/// One whose time step is 0: refusal 1, though its lists are right.
+pub fn no_time(side: u32) -> Wild {
+    let mut site = site(side);
+    site.card.dt = 0;
+    site
+}
+
 /// One whose ground is a word too short: refusal 2.
 pub fn short(side: u32) -> Wild {
     let mut site = site(side);

@@ -84,6 +84,7 @@ fn read_sheet_takes_what_is_named() {
     holds("read, 8×8", named.small, Ok(()), || cases::read(cases::site(8)));
     holds("read, 32×32, a bad value", named.small, Err(Refusal::Value), || cases::read(cases::bad(32)));
     holds("read, no bytes and no lists", named.refused, Err(Refusal::Sheet), || cases::read(cases::nothing()));
+    holds("read, a bad card", named.refused, Err(Refusal::Card), || cases::read(cases::no_time(128)));
     holds("read, lists too short", named.refused, Err(Refusal::Length), || cases::read(cases::short(128)));
 }
 
@@ -95,6 +96,7 @@ fn searches_take_what_is_named() {
         holds(name, named.small, Ok(()), || search(cases::site(8), 1_000));
         holds(name, named.refused, Err(Refusal::Card), || search(cases::nothing(), 0));
         holds(name, named.refused, Err(Refusal::Length), || search(cases::site(8), 1_001));
+        holds(name, named.refused, Err(Refusal::Value), || search(cases::bad(8), 1_000));
     }
 }
 
@@ -104,6 +106,7 @@ fn write_sheet_takes_what_is_named() {
     holds("write, 128×128", named.any, Ok(()), || cases::write(cases::site(128)));
     holds("write, 8×8", named.small, Ok(()), || cases::write(cases::site(8)));
     holds("write, an empty card", named.refused, Err(Refusal::Card), || cases::write(cases::nothing()));
+    holds("write, lists too short", named.refused, Err(Refusal::Length), || cases::write(cases::short(128)));
     holds("write, a bad value", named.refused, Err(Refusal::Value), || cases::write(cases::bad(128)));
 }
 

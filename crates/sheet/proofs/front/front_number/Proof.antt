@@ -65,12 +65,12 @@ state-length-requires c κs = carded (c .before .before)
 returns-3 : tie.Need-returns-3
 returns-3 c =
     let e = c .before .before .before .before in
-    front-2 _ _ _ (head (e .before .before .before)) (card e) (sym (lengths (c .before)) ∙ not-true _ (c .if3 .taken))
+    front-0 _ _ _ (head (e .before .before .before)) (card e) (sym (lengths (c .before)) ∙ c .if3 .taken)
 
 returns-4 : tie.Need-returns-4
 returns-4 c =
     let e = c .before .before .before .before in
-    front-0 _ _ _ (head (e .before .before .before)) (card e) (sym (lengths (c .before)) ∙ not-false _ (c .if3 .left))
+    front-2 _ _ _ (head (e .before .before .before)) (card e) (sym (lengths (c .before)) ∙ c .if3 .left)
 
 pub front-number-spec : {M : Type 1} → statement M
 front-number-spec =
