@@ -1,10 +1,24 @@
-// Lists of words: one word by column and row, whole lists copied, cleared and renewed, and the greatest word.
+// Lists of words: new ones, one word by column and row, whole lists copied, cleared and renewed, and the greatest word.
 ghost use mathlib.Core.Path.{_≡_};
 ghost use Prim.Native.Nat.{_+_, _*_, _≤_, _<_};
 ghost use lib.IntN.{pos};
 ghost use lib.ListN.{length, getD, set, replicate};
 ghost use Rattle.rules.specs.Grid.{maxZ, greatest as Grid·greatest};
 ghost use Rattle.lists.specs.Renewed.{renewed};
+
+// A list as long as the longest state, of 128 by 128 cells.
+pub fn longest() -> [i32; 49408]
+    ensures { λ r. ⌜ length r ≡ 49408 ⌝ }
+{
+    [0; 49408]
+}
+
+// A list as long as a state of 32 by 32 cells: on a small site it would take longer to clear the longest lists than to step.
+pub fn short() -> [i32; 3136]
+    ensures { λ r. ⌜ length r ≡ 3136 ⌝ }
+{
+    [0; 3136]
+}
 
 // The word at a column and a row of the grid of so many columns that starts at `base`.
 pub fn word(s: &[i32], base: usize, columns: usize, i: usize, j: usize) -> i32

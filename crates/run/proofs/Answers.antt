@@ -16,7 +16,8 @@ use Rattle.rules.specs.Contracts.{RunContract}
 use Rattle.laws.specs.Facts.{check-with-sound, check-with-facts}
 use Rattle.laws.specs.Outcomes.{if-done, if-refused}
 use Rattle.laws.specs.Runs.{refused-after}
-use Rattle.run.specs.Running.{RunRoom, Roomy, Ended}
+use Rattle.steps.specs.Running.{RunRoom, Ended}
+use Rattle.run.specs.Roomy.{Roomy}
 
 -- no state is longer than the longest
 pub state-few : (c : Card) (g s x : List ℤ) → checkWith c g s (length x) ≡ 0 → length s ≤ 49408

@@ -1,46 +1,13 @@
-// The run: one step after another, with the tally handed from step to step.
+// The run, for any card, any lists and any words in them: the checks, a tide to work in, and the scratch list all zero at the end.
 ghost use mathlib.Core.Path.{_≡_};
 ghost use lib.ListN.{length};
 ghost use Rattle.rules.specs.Site.{checkWith};
-ghost use Rattle.rules.specs.Run.{runAll};
 ghost use Rattle.rules.specs.Contracts.{RunContract};
-ghost use Rattle.run.specs.Running.{RunRoom, Roomy, Small, Ended};
+ghost use Rattle.run.specs.Roomy.{Roomy, Small};
 use rules::Card;
 use rules::Tally;
 
-// All steps that are wanted, or as many as are accepted, of a sound site. Each next state is made in the scratch list.
-fn steps(
-    card: Card,
-    ground: &[i32],
-    state: &mut [i32],
-    scratch: &mut [i32],
-    tide: &mut [i32],
-) -> Tally
-    requires { ⌜ RunRoom card (now ground) (now state) (now scratch) (now tide) ⌝ }
-    ensures { λ r. ⌜ Ended (runAll card (now (ground .entry)) (now (state .entry))) r (now (state .exit)) ⌝ }
-{
-    let cells = card::cells(card);
-    let wanted = card.steps;
-    let mut tally = Tally {
-        steps: 0,
-        reason: 0,
-        top: lists::greatest(state, cells),
-    };
-    let mut done: u32 = 0;
-    while done < wanted {
-        let number = step::advance::advance(card, ground, state, tide, scratch);
-        if number != 0 {
-            tally.reason = number;
-            return tally;
-        }
-        lists::renew(state, scratch, number);
-        tally = tally.accept(lists::greatest(state, cells));
-        done += 1;
-    }
-    tally
-}
-
-// The same with a tide that may be longer, and with the scratch list all zero at the end.
+// The steps of a run with a tide that may be longer, and with the scratch list all zero at the end.
 fn run_in(
     card: Card,
     ground: &[i32],
@@ -52,7 +19,7 @@ fn run_in(
     ensures { λ r. ⌜ RunContract card (now (ground .entry)) (now (state .entry)) (now (scratch .entry)) r (now (state .exit)) (now (scratch .exit)) ⌝ }
 {
     let n = state.len();
-    let tally = steps(card, ground, state, scratch, &mut tide[..n]);
+    let tally = steps::steps(card, ground, state, scratch, &mut tide[..n]);
     lists::clear(scratch);
     tally
 }
@@ -61,7 +28,7 @@ fn small_run(card: Card, ground: &[i32], state: &mut [i32], scratch: &mut [i32])
     requires { ⌜ Small card (now ground) (now state) (now scratch) ⌝ }
     ensures { λ r. ⌜ RunContract card (now (ground .entry)) (now (state .entry)) (now (scratch .entry)) r (now (state .exit)) (now (scratch .exit)) ⌝ }
 {
-    let mut tide = step::short();
+    let mut tide = lists::short();
     run_in(card, ground, state, scratch, &mut tide)
 }
 
@@ -69,7 +36,7 @@ fn large_run(card: Card, ground: &[i32], state: &mut [i32], scratch: &mut [i32])
     requires { ⌜ checkWith card (now ground) (now state) (length (now scratch)) ≡ 0 ⌝ }
     ensures { λ r. ⌜ RunContract card (now (ground .entry)) (now (state .entry)) (now (scratch .entry)) r (now (state .exit)) (now (scratch .exit)) ⌝ }
 {
-    let mut tide = step::longest();
+    let mut tide = lists::longest();
     run_in(card, ground, state, scratch, &mut tide)
 }
 

@@ -14,7 +14,7 @@ use Rattle.rules.specs.Contracts.{StepContract}
 use Rattle.laws.specs.Facts.{check-with-sound, check-with-facts}
 use Rattle.laws.specs.Outcomes.{first-refused, first-passed, if-refused, if-same}
 use Rattle.lists.specs.Renewed.{renewed}
-use Rattle.step.specs.Advance.{StepRoom, Advanced}
+use Rattle.advance.specs.Advance.{StepRoom, Advanced}
 use Rattle.step.specs.Draft.{Drafting}
 
 -- ---- the checks passed

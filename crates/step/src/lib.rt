@@ -1,26 +1,10 @@
 // One step of water over a site, for any card, any lists and any words in them.
-pub mod advance;
-
 ghost use mathlib.Core.Path.{_≡_};
 ghost use lib.ListN.{length};
 ghost use Rattle.rules.specs.Site.{checkWith};
 ghost use Rattle.rules.specs.Contracts.{StepContract};
 ghost use Rattle.step.specs.Draft.{Drafting, Small};
 use rules::Card;
-
-// A list as long as the longest state, of 128 by 128 cells.
-pub fn longest() -> [i32; 49408]
-    ensures { λ r. ⌜ length r ≡ 49408 ⌝ }
-{
-    [0; 49408]
-}
-
-// A list as long as a state of 32 by 32 cells: on a small site it would take longer to clear the longest lists than to step.
-pub fn short() -> [i32; 3136]
-    ensures { λ r. ⌜ length r ≡ 3136 ⌝ }
-{
-    [0; 3136]
-}
 
 // One step that passes the first three checks, worked out in the draft, so that a refused step leaves the next state as it was lent.
 fn step_by_draft(
@@ -44,8 +28,8 @@ fn small_step(card: Card, ground: &[i32], state: &[i32], next: &mut [i32]) -> u3
     requires { ⌜ Small card (now ground) (now state) (now next) ⌝ }
     ensures { λ r. ⌜ StepContract card (now (ground .entry)) (now (state .entry)) (now (next .entry)) r (now (next .exit)) ⌝ }
 {
-    let mut tide = short();
-    let mut draft = short();
+    let mut tide = lists::short();
+    let mut draft = lists::short();
     step_by_draft(card, ground, state, &mut tide, &mut draft, next)
 }
 
@@ -53,8 +37,8 @@ fn large_step(card: Card, ground: &[i32], state: &[i32], next: &mut [i32]) -> u3
     requires { ⌜ checkWith card (now ground) (now state) (length (now next)) ≡ 0 ⌝ }
     ensures { λ r. ⌜ StepContract card (now (ground .entry)) (now (state .entry)) (now (next .entry)) r (now (next .exit)) ⌝ }
 {
-    let mut tide = longest();
-    let mut draft = longest();
+    let mut tide = lists::longest();
+    let mut draft = lists::longest();
     step_by_draft(card, ground, state, &mut tide, &mut draft, next)
 }
 

@@ -1,7 +1,7 @@
 use borrow.Author.Needs.{needs}
-use Rattle.step.proofs.Answers.{share-broken, speed-broken, all-kept}
-use Rattle.step.proofs.advance.move_on.Statement.{statement}
-use Rattle.step.proofs.advance.move_on.Tie as tie
+use Rattle.advance.proofs.Answers.{share-broken, speed-broken, all-kept}
+use Rattle.advance.proofs.move_on.Statement.{statement}
+use Rattle.advance.proofs.move_on.Tie as tie
 
 shares-fit-requires : tie.Need-shares-fit-requires
 shares-fit-requires c κs = search needs

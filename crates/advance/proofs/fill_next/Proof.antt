@@ -17,8 +17,8 @@ use Rattle.heights.specs.Tide.{tide}
 use Rattle.heights.proofs.Sites.{facts}
 use Rattle.velocities.specs.Velocities.{nextVelocities}
 use Rattle.velocities.proofs.Flows.{sound-of}
-use Rattle.step.proofs.advance.fill_next.Statement.{statement}
-use Rattle.step.proofs.advance.fill_next.Tie as tie
+use Rattle.advance.proofs.fill_next.Statement.{statement}
+use Rattle.advance.proofs.fill_next.Tie as tie
 
 abbrev cells : tie.Start → ℕ
 cells start = start .args .card .rows * start .args .card .columns

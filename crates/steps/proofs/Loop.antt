@@ -18,8 +18,8 @@ use Rattle.laws.specs.Keeps.{keeps-sound}
 use Rattle.laws.specs.Outcomes.{if-done}
 use Rattle.laws.specs.Runs.{LeadsTo, leads-from, leads-on, leads-nowhere, led}
 use Rattle.lists.specs.Renewed.{renewed}
-use Rattle.step.specs.Advance.{Advanced}
-use Rattle.run.specs.Running.{Ended}
+use Rattle.advance.specs.Advance.{Advanced}
+use Rattle.steps.specs.Running.{Ended}
 
 -- after `done` accepted steps the tally is t and the state s, still of a sound site; the steps that are left lead to the run's outcome
 pub record Running (c : Card) (g s₀ s : List ℤ) (t : Tally) (done : ℕ) : Type 0 where

@@ -5,9 +5,9 @@ use lib.ListN.{length}
 use borrow.Author.Needs.{needs}
 use mir.Facts.{toZ-ofZ}
 use Rattle.rules.specs.Site.{stateLength}
-use Rattle.run.proofs.Loop.{Running, few-steps, cells-held, peak-is, begins, stops, goes-on, ends}
-use Rattle.run.proofs.steps.Statement.{statement}
-use Rattle.run.proofs.steps.Tie as tie
+use Rattle.steps.proofs.Loop.{Running, few-steps, cells-held, peak-is, begins, stops, goes-on, ends}
+use Rattle.steps.proofs.steps.Statement.{statement}
+use Rattle.steps.proofs.steps.Tie as tie
 
 abbrev Inv-loop : tie.InvT-loop
 Inv-loop card ground state₀ scratch₀ tide₀ cells wanted tally₀ done₀ state scratch tide tally done =

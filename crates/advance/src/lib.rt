@@ -2,7 +2,7 @@
 ghost use Rattle.rules.specs.Site.{readGround, readState};
 ghost use Rattle.rules.specs.Step.{newVelocity, newVelocitiesFit, nextState};
 ghost use Rattle.laws.specs.Tested.{Filled};
-ghost use Rattle.step.specs.Advance.{StepRoom, NextRoom, Advanced};
+ghost use Rattle.advance.specs.Advance.{StepRoom, NextRoom, Advanced};
 use rules::Card;
 
 // Fills the next state: its heights from the tide, and the velocities behind them. Where a velocity does not fit, nothing is promised of its words.

@@ -1,7 +1,7 @@
 use borrow.Author.Needs.{needs}
-use Rattle.step.proofs.Answers.{limit-broken, limited, tide-room, crossed, height-broken, next-room}
-use Rattle.step.proofs.advance.advance.Statement.{statement}
-use Rattle.step.proofs.advance.advance.Tie as tie
+use Rattle.advance.proofs.Answers.{limit-broken, limited, tide-room, crossed, height-broken, next-room}
+use Rattle.advance.proofs.advance.Statement.{statement}
+use Rattle.advance.proofs.advance.Tie as tie
 
 -- where the tide has its heights, from where they were looked at
 abbrev filled : tie.After-heights-fit → tie.After-heights
