@@ -1,8 +1,8 @@
 use mir.Syntax.{w32}
 use Rattle.rules.specs.Step.{outBehind}
 use Rattle.laws.specs.Exact.{Node, fits, value, int, add, neg}
-use Rattle.face.proofs.out_behind.Statement.{statement}
-use Rattle.face.proofs.out_behind.Tie as tie
+use Rattle.momentum.proofs.out_behind.Statement.{statement}
+use Rattle.momentum.proofs.out_behind.Tie as tie
 
 abbrev sum : tie.After-struct-told2 → Node w32
 sum c = let r = c .before .before .pre in add (int (r .own) tt) (int (r .behind) tt) tt

@@ -1,10 +1,11 @@
 use mir.Syntax.{w32}
 use Rattle.rules.specs.Step.{ownShare}
 use Rattle.laws.specs.Exact.{Node, fits, value, int, add, sub}
-use Rattle.face.proofs.Bounds.{height-within, ahead-within, behind-within, above-within, below-within}
-use Rattle.face.proofs.Flows.{outward}
-use Rattle.face.proofs.own_share.Statement.{statement}
-use Rattle.face.proofs.own_share.Tie as tie
+use Rattle.face.proofs.Bounds.{height-within}
+use Rattle.momentum.proofs.Bounds.{ahead-within, behind-within, above-within, below-within}
+use Rattle.momentum.proofs.Flows.{outward}
+use Rattle.momentum.proofs.own_share.Statement.{statement}
+use Rattle.momentum.proofs.own_share.Tie as tie
 
 -- the places: the first sum and the second
 abbrev start : tie.After-positive2 → tie.Start

@@ -6,8 +6,9 @@ use mir.Val.{toZ, ofZ}
 use Rattle.rules.specs.Step.{positive, brought}
 use Rattle.laws.specs.Sizes.{Within}
 use Rattle.laws.specs.Exact.{Node, int, result, both, called, within}
-use Rattle.face.specs.Ranges.{Speed, Flow}
-use Rattle.face.proofs.Bounds.{positive-within, brought-within}
+use Rattle.face.specs.Ranges.{Speed}
+use Rattle.momentum.specs.Fits.{Flow}
+use Rattle.momentum.proofs.Bounds.{positive-within, brought-within}
 
 -- r is the flow that the first call returned
 module _ {out r : ℤ} (h : Within 100000000 out) (e : r ≡ out) where

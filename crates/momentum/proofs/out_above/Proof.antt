@@ -1,8 +1,8 @@
 use mir.Syntax.{w32}
 use Rattle.rules.specs.Step.{outAbove}
 use Rattle.laws.specs.Exact.{Node, fits, value, int, add}
-use Rattle.face.proofs.out_above.Statement.{statement}
-use Rattle.face.proofs.out_above.Tie as tie
+use Rattle.momentum.proofs.out_above.Statement.{statement}
+use Rattle.momentum.proofs.out_above.Tie as tie
 
 abbrev sum : tie.After-struct-told2 → Node w32
 sum c = let r = c .before .before .pre in add (int (r .aboveK) tt) (int (r .aboveL) tt) tt

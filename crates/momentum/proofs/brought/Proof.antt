@@ -2,9 +2,9 @@ use mir.Syntax.{w32, w64}
 use Rattle.rules.specs.Step.{positive, brought}
 use Rattle.laws.specs.Sizes.{within-neg}
 use Rattle.laws.specs.Exact.{Node, fits, value, called, int, result, neg, mul, cast}
-use Rattle.face.proofs.Bounds.{positive-within}
-use Rattle.face.proofs.brought.Statement.{statement}
-use Rattle.face.proofs.brought.Tie as tie
+use Rattle.momentum.proofs.Bounds.{positive-within}
+use Rattle.momentum.proofs.brought.Statement.{statement}
+use Rattle.momentum.proofs.brought.Tie as tie
 
 abbrev back : tie.Start → Node w32
 back c = neg (int (c .pre .flow) tt)

@@ -1,8 +1,8 @@
 use mathlib.Core.Path.{_∙_, sym}
 use mir.Facts.{toZ-ofZ}
-use Rattle.face.proofs.Laws.{positive-yes, positive-no}
-use Rattle.face.proofs.positive.Statement.{statement}
-use Rattle.face.proofs.positive.Tie as tie
+use Rattle.momentum.proofs.Laws.{positive-yes, positive-no}
+use Rattle.momentum.proofs.positive.Statement.{statement}
+use Rattle.momentum.proofs.positive.Tie as tie
 
 returns : tie.Need-returns
 returns c = sym (positive-yes _ (rw (toZ-ofZ (c .before .fits .flow)) at (c .if1 .taken)))

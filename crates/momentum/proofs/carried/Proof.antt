@@ -1,10 +1,10 @@
 use mir.Syntax.{w64}
 use Rattle.rules.specs.Step.{carried}
 use Rattle.laws.specs.Exact.{Node, fits, value, int, result, add, mul, cast}
-use Rattle.face.proofs.Bounds.{share-within, ahead-within, behind-within, above-within, below-within}
-use Rattle.face.proofs.Flows.{handed, inward}
-use Rattle.face.proofs.carried.Statement.{statement}
-use Rattle.face.proofs.carried.Tie as tie
+use Rattle.momentum.proofs.Bounds.{share-within, ahead-within, behind-within, above-within, below-within}
+use Rattle.momentum.proofs.Flows.{handed, inward}
+use Rattle.momentum.proofs.carried.Statement.{statement}
+use Rattle.momentum.proofs.carried.Tie as tie
 
 -- the places: after own share, after the sum along the face's direction, and after the sum across
 abbrev start : tie.After-own-share → tie.Start
