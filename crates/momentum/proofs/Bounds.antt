@@ -1,13 +1,9 @@
--- How large the numbers of a step are, by the ranges of what they are made of.
+-- How large the flows and what they carry are, by the ranges of what they are made of.
 use Prim.Native.Nat.{ℕ, _*_, zero-le}
-use native.Mathlib.Nat.{mul-le-mul-left}
-use native.Mathlib.Omega.{arith}
-use lib.Dec.{lit≤}
 use lib.IntN.{ℤ, pos, negsuc}
 use Rattle.rules.specs.declared.Face.{Face}
-use Rattle.rules.specs.Step.{outAhead, outBehind, outAbove, outBelow, positive, ownShare, brought, carried, rise, slope}
-use Rattle.laws.specs.Sizes.{Within, within-nat, within-neg, within-add, within-sub, within-mul, within-quot}
-use Rattle.face.specs.Ranges.{Time, Side}
+use Rattle.rules.specs.Step.{outAhead, outBehind, outAbove, outBelow, positive, ownShare, brought, carried}
+use Rattle.laws.specs.Sizes.{Within, within-neg, within-add, within-sub, within-mul}
 use Rattle.face.proofs.Bounds.{height-within}
 use Rattle.momentum.specs.Fits.{FaceFits}
 
@@ -49,11 +45,3 @@ module _ {f : Face} (r : FaceFits f) where
       within-add (within-mul share-within (r .u))
       (within-add (within-add (brought-within ahead-within (r .uAhead)) (brought-within behind-within (r .uBehind)))
       (within-add (brought-within above-within (r .uAbove)) (brought-within below-within (r .uBelow))))
-
-  pub slope-within : {dt d : ℕ} → Time dt → Side d → Within 20000000000 (slope dt d f)
-  unfolding slope rise
-  slope-within {dt} {d} t s =
-      within-quot 100000000 (1000 * d) 20000000000
-      (within-mul (within-nat (mul-le-mul-left 9806650 (t .high))) (within-sub (within-add (height-within (r .newL)) (r .groundL)) (within-add (height-within (r .newK)) (r .groundK))))
-      (lit≤ tt)
-      (omega (arith, s .low))

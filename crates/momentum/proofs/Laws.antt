@@ -1,12 +1,11 @@
--- What the definitions are as the code computes them.
-use Prim.Native.Nat.{ℕ, suc}
+-- What `positive` is as the code computes it.
+use Prim.Native.Nat.{ℕ}
 use mathlib.Core.Path.{_≡_, refl}
 use mathlib.Core.Bool.{true, false}
 use native.Mathlib.Omega.{arith}
-use borrow.Author.Tests.{ltb-true, leb-true, leb-false, le-leb, lt-leb}
+use borrow.Author.Tests.{ltb-true}
 use lib.IntN.{ℤ, pos, negsuc}
-use lib.Signed.{leZ, ltZ}
-use Rattle.rules.specs.Site.{speedFits}
+use lib.Signed.{ltZ}
 use Rattle.rules.specs.Step.{positive}
 
 pub positive-yes : (x : ℤ) → ltZ x (pos 0) ≡ true → positive x ≡ pos 0
@@ -18,12 +17,3 @@ pub positive-no : (x : ℤ) → ltZ x (pos 0) ≡ false → positive x ≡ x
 unfolding positive
 positive-no (pos n) e = refl
 positive-no (negsuc n) e = let z : _≡_ {A = ℕ} 0 1 = cc in absurd (omega arith)
-
--- a range is a bound on the size
-pub fits-yes : (v : ℤ) → leZ (negsuc 19999999) v ≡ true → leZ v (pos 20000000) ≡ speedFits v
-fits-yes (pos n) e = refl
-fits-yes (negsuc n) e = let h = leb-true n 19999999 e in rw (le-leb (suc n) 20000000 (omega arith))
-
-pub fits-no : (v : ℤ) → leZ (negsuc 19999999) v ≡ false → false ≡ speedFits v
-fits-no (pos n) e = let z : _≡_ {A = ℕ} 0 1 = cc in absurd (omega arith)
-fits-no (negsuc n) e = let h = leb-false n 19999999 e in rw (lt-leb (suc n) 20000000 (omega arith))

@@ -1,9 +1,8 @@
 -- What the functions of this crate require: each number around a face in its range.
-use Prim.Native.Nat.{ℕ}
 use lib.IntN.{ℤ}
 use Rattle.rules.specs.declared.Face.{Face}
 use Rattle.laws.specs.Sizes.{Within}
-use Rattle.face.specs.Ranges.{Height, Speed, Transfer, Time, Side}
+use Rattle.face.specs.Ranges.{Height, Speed, Transfer}
 
 -- a ground level: -50,000,000 to 50,000,000
 abbrev pub Ground : ℤ → Type 0
@@ -28,11 +27,6 @@ pub record FaceFits (f : Face) : Type 0 where
   pub uBehind : Speed (f .uBehind)
   pub uAbove : Speed (f .uAbove)
   pub uBelow : Speed (f .uBelow)
-
-pub record InVelocity (f : Face) (dt d : ℕ) : Type 0 where
-  pub face : FaceFits f
-  pub time : Time dt
-  pub side : Side d
 
 -- a flow over a dual edge, the sum of two transfers, and the velocity that it carries
 pub record Flow (out v : ℤ) : Type 0 where

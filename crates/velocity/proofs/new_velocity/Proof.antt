@@ -8,9 +8,10 @@ use Rattle.rules.specs.Site.{isZero}
 use Rattle.rules.specs.Step.{newVelocity}
 use Rattle.laws.specs.Exact.{Node, fits, value, divides, is-zero, not-zero, int, result, add, sub, quot, cast}
 use Rattle.face.proofs.Bounds.{height-within}
-use Rattle.momentum.proofs.Bounds.{carried-within, slope-within}
-use Rattle.momentum.proofs.new_velocity.Statement.{statement}
-use Rattle.momentum.proofs.new_velocity.Tie as tie
+use Rattle.momentum.proofs.Bounds.{carried-within}
+use Rattle.velocity.proofs.Bounds.{slope-within}
+use Rattle.velocity.proofs.new_velocity.Statement.{statement}
+use Rattle.velocity.proofs.new_velocity.Tie as tie
 
 abbrev start : tie.After-struct-told2 → tie.Start
 start c = c .before .before

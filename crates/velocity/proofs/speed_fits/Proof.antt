@@ -1,8 +1,8 @@
 use mathlib.Core.Path.{_∙_}
 use mir.Facts.{toZ-ofZ}
-use Rattle.momentum.proofs.Laws.{fits-yes, fits-no}
-use Rattle.momentum.proofs.speed_fits.Statement.{statement}
-use Rattle.momentum.proofs.speed_fits.Tie as tie
+use Rattle.velocity.proofs.Laws.{fits-yes, fits-no}
+use Rattle.velocity.proofs.speed_fits.Statement.{statement}
+use Rattle.velocity.proofs.speed_fits.Tie as tie
 
 returns : tie.Need-returns
 returns c = rw (toZ-ofZ (c .before .fits .v)) (fits-yes (c .before .args .v) (rw (toZ-ofZ (c .before .fits .v)) at (c .if1 .taken)))

@@ -3,8 +3,8 @@ use mir.Syntax.{w32, w64}
 use Rattle.rules.specs.Step.{rise as Step·rise, slope}
 use Rattle.laws.specs.Exact.{Node, fits, value, divides, int, nat, lit, add, sub, mul, quot, cast}
 use Rattle.face.proofs.Bounds.{height-within}
-use Rattle.momentum.proofs.slope.Statement.{statement}
-use Rattle.momentum.proofs.slope.Tie as tie
+use Rattle.velocity.proofs.slope.Statement.{statement}
+use Rattle.velocity.proofs.slope.Tie as tie
 
 abbrev start : tie.After-struct-told4 → tie.Start
 start c = c .before .before .before .before
