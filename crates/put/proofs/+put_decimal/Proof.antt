@@ -4,16 +4,16 @@ use mathlib.Core.Path.{sym}
 use lib.ListN.{length}
 use Rattle.rules.specs.Text.{decimal}
 use Rattle.laws.specs.Decimals.{decimal-one, decimal-more, length-decimal}
-use Rattle.text.proofs.Laws.{put-same, put-nil, put-more, put-reach}
+use Rattle.put.proofs.Laws.{put-same, put-nil, put-more, put-reach}
 use native.Mathlib.Omega.{arith}
 use borrow.Author.Needs.{needs}
 use borrow.Fn.Kinds.{In}
 use borrow.Fn.PlainCycle.{Measures, is, falls, and}
-use Rattle.text.proofs.put_decimal.Reads as own
-use Rattle.text.proofs.put_decimal.Kinds as kinds
-use Rattle.text.proofs.+put_decimal.Lts-put_decimal as lts
-use Rattle.text.proofs.+put_decimal.{statement}
-use Rattle.text.proofs.+put_decimal.Tie.{close}
+use Rattle.put.proofs.put_decimal.Reads as own
+use Rattle.put.proofs.put_decimal.Kinds as kinds
+use Rattle.put.proofs.+put_decimal.Lts-put_decimal as lts
+use Rattle.put.proofs.+put_decimal.{statement}
+use Rattle.put.proofs.+put_decimal.Tie.{close}
 
 -- a number of 32 bits has at most ten digits, and a tenth of it at most nine
 nine : (n : ℕ) → n < 2 ^ 32 → length (decimal (n / 10)) ≤ 9

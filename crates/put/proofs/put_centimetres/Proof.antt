@@ -2,9 +2,9 @@ use native.Mathlib.Omega.{arith}
 use lib.ListN.{length-set}
 use borrow.Author.Needs.{needs}
 use Rattle.laws.specs.Decimals.{length-decimal}
-use Rattle.text.proofs.Laws.{put-reach, put-behind}
-use Rattle.text.proofs.put_centimetres.Statement.{statement}
-use Rattle.text.proofs.put_centimetres.Tie as tie
+use Rattle.put.proofs.Laws.{put-reach, put-behind}
+use Rattle.put.proofs.put_centimetres.Statement.{statement}
+use Rattle.put.proofs.put_centimetres.Tie as tie
 
 put-decimal-requires : tie.Need-put-decimal-requires
 put-decimal-requires c κs = search needs

@@ -5,9 +5,9 @@ use borrow.Author.Needs.{needs}
 use lib.ListN.{length-append}
 use Rattle.rules.specs.Text.{decimal, cm}
 use Rattle.laws.specs.Decimals.{length-decimal}
-use Rattle.text.proofs.Laws.{put-same, put-part, put-within, put-fits, fits-in}
-use Rattle.text.proofs.put_cm.Statement.{statement}
-use Rattle.text.proofs.put_cm.Tie as tie
+use Rattle.put.proofs.Laws.{put-same, put-part, put-within, put-fits, fits-in}
+use Rattle.put.proofs.put_cm.Statement.{statement}
+use Rattle.put.proofs.put_cm.Tie as tie
 
 slice-aggregate-put-centimetres : tie.Need-slice-aggregate-put-centimetres
 slice-aggregate-put-centimetres c = search needs

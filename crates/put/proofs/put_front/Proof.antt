@@ -1,8 +1,8 @@
 use native.Mathlib.Omega.{arith}
-use Rattle.text.proofs.Laws.{put-none, put-all}
+use Rattle.put.proofs.Laws.{put-none, put-all}
 use borrow.Author.Needs.{needs}
-use Rattle.text.proofs.put_front.Statement.{statement}
-use Rattle.text.proofs.put_front.Tie as tie
+use Rattle.put.proofs.put_front.Statement.{statement}
+use Rattle.put.proofs.put_front.Tie as tie
 
 returns : tie.Need-returns
 returns c = put-none _ _ (c .if1 .taken)
