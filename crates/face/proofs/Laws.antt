@@ -1,15 +1,12 @@
--- What the definitions are as the code computes them.
+-- A transfer as the code computes it.
 use Prim.Native.Nat.{ℕ, zero, suc, _*_, _/_}
 use mathlib.Core.Path.{_≡_, refl, _∙_}
-use mathlib.Core.Bool.{true, false, cond}
+use mathlib.Core.Bool.{cond}
 use native.Mathlib.Nat.{zero-mul, mul-zero, zero-div}
-use native.Mathlib.Omega.{arith}
-use borrow.Author.Tests.{ltb-true, leb-true, leb-false, le-leb, lt-leb}
 use lib.Dec.{T, leb·suc-zero}
 use lib.IntN.{ℤ, pos, negsuc, negℤ, natAbs, _*ℤ_}
 use lib.Signed.{leZ, ltZ, quotZ}
-use Rattle.rules.specs.Site.{speedFits}
-use Rattle.rules.specs.Step.{transfer, positive}
+use Rattle.rules.specs.Step.{transfer}
 use Rattle.laws.specs.Numbers.{neg-mul, neg-quot}
 
 -- the size by floor and the sign apart are one quotient towards zero
@@ -27,22 +24,3 @@ unfolding transfer
 transfer-quot hK hL (pos zero) dt d p q = ahead hK 0 dt (1000 * d) p ∙ simp (mul-zero, zero-mul, zero-div)
 transfer-quot hK hL (pos (suc n)) dt d p q = rw leb·suc-zero (ahead hK (suc n) dt (1000 * d) p)
 transfer-quot hK hL (negsuc n) dt d p q = back hL n dt (1000 * d) q
-
-pub positive-yes : (x : ℤ) → ltZ x (pos 0) ≡ true → positive x ≡ pos 0
-unfolding positive
-positive-yes (pos n) e = let h = ltb-true n 0 e in absurd (omega arith)
-positive-yes (negsuc n) e = refl
-
-pub positive-no : (x : ℤ) → ltZ x (pos 0) ≡ false → positive x ≡ x
-unfolding positive
-positive-no (pos n) e = refl
-positive-no (negsuc n) e = let z : _≡_ {A = ℕ} 0 1 = cc in absurd (omega arith)
-
--- a range is a bound on the size
-pub fits-yes : (v : ℤ) → leZ (negsuc 19999999) v ≡ true → leZ v (pos 20000000) ≡ speedFits v
-fits-yes (pos n) e = refl
-fits-yes (negsuc n) e = let h = leb-true n 19999999 e in rw (le-leb (suc n) 20000000 (omega arith))
-
-pub fits-no : (v : ℤ) → leZ (negsuc 19999999) v ≡ false → false ≡ speedFits v
-fits-no (pos n) e = let z : _≡_ {A = ℕ} 0 1 = cc in absurd (omega arith)
-fits-no (negsuc n) e = let h = leb-false n 19999999 e in rw (lt-leb (suc n) 20000000 (omega arith))

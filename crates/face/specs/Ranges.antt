@@ -3,7 +3,6 @@ use Prim.Native.Nat.{ℕ, _≤_}
 use lib.IntN.{ℤ, pos}
 use lib.Signed.{leZ}
 use lib.Dec.{T}
-use Rattle.rules.specs.declared.Face.{Face}
 use Rattle.laws.specs.Sizes.{Within}
 
 -- a water height: 0 to 50,000,000
@@ -14,10 +13,6 @@ pub record Height (h : ℤ) : Type 0 where
 -- a face velocity: -20,000,000 to 20,000,000
 abbrev pub Speed : ℤ → Type 0
 Speed v = Within 20000000 v
-
--- a ground level: -50,000,000 to 50,000,000
-abbrev pub Ground : ℤ → Type 0
-Ground z = Within 50000000 z
 
 -- a transfer under the step limit: no cell sends more than it holds
 abbrev pub Transfer : ℤ → Type 0
@@ -57,33 +52,3 @@ pub record InHeight (h tW tE tS tN : ℤ) : Type 0 where
   pub east : Transfer tE
   pub south : Transfer tS
   pub north : Transfer tN
-
-pub record FaceFits (f : Face) : Type 0 where
-  pub oldK : Height (f .oldK)
-  pub oldL : Height (f .oldL)
-  pub newK : Height (f .newK)
-  pub newL : Height (f .newL)
-  pub groundK : Ground (f .groundK)
-  pub groundL : Ground (f .groundL)
-  pub own : Transfer (f .own)
-  pub ahead : Transfer (f .ahead)
-  pub behind : Transfer (f .behind)
-  pub aboveK : Transfer (f .aboveK)
-  pub aboveL : Transfer (f .aboveL)
-  pub belowK : Transfer (f .belowK)
-  pub belowL : Transfer (f .belowL)
-  pub u : Speed (f .u)
-  pub uAhead : Speed (f .uAhead)
-  pub uBehind : Speed (f .uBehind)
-  pub uAbove : Speed (f .uAbove)
-  pub uBelow : Speed (f .uBelow)
-
-pub record InVelocity (f : Face) (dt d : ℕ) : Type 0 where
-  pub face : FaceFits f
-  pub time : Time dt
-  pub side : Side d
-
--- a flow over a dual edge, the sum of two transfers, and the velocity that it carries
-pub record Flow (out v : ℤ) : Type 0 where
-  pub flow : Within 100000000 out
-  pub speed : Speed v

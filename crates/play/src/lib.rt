@@ -4,7 +4,7 @@ ghost use Prim.Native.Nat.{_≤_};
 ghost use lib.ListN.{length};
 ghost use Rattle.rules.specs.Calls.{runOutcome};
 ghost use Rattle.rules.specs.Play.{playNumber, playedText, played, printed};
-ghost use Rattle.text.specs.Put.{Put};
+ghost use Rattle.put.specs.Put.{Put};
 ghost use Rattle.print.specs.Appended.{Appended, Rows};
 ghost use Rattle.play.specs.Lent.{Cut, Uncut};
 use rules::Card;
@@ -126,5 +126,5 @@ pub fn play(input: &[u8], out: &mut [u8]) -> usize
 {
     let mut page = blank_page();
     let end = print_input(input, &mut page);
-    text::put_front(&page[..end], out)
+    put::put_front(&page[..end], out)
 }

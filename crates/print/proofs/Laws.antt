@@ -8,8 +8,8 @@ use lib.Seq.{take-at, drop-drop}
 use borrow.Rule.Slice.PartMut.{putMid}
 use Rattle.laws.specs.Laid.{laid, laid-laid, length-laid, laid-none, laid-front}
 use Rattle.laws.specs.Parts.{back-is, back-length}
-use Rattle.text.specs.Put.{Put}
-use Rattle.text.proofs.Laws.{fits-in}
+use Rattle.put.specs.Put.{Put}
+use Rattle.put.proofs.Laws.{fits-in}
 use Rattle.rules.specs.Text.{fitted}
 use Rattle.print.specs.Appended.{Appended}
 

@@ -16,7 +16,7 @@ fn append(text: &[u8], out: &mut [u8], at: usize) -> usize
     requires { ⌜ at + length (now text) ≤ length (now out) ⌝ }
     ensures { λ r. ⌜ Appended (now (text .entry)) at r (now (out .entry)) (now (out .exit)) ⌝ }
 {
-    let k = text::put_front(text, &mut out[at..]);
+    let k = put::put_front(text, &mut out[at..]);
     at + k
 }
 
@@ -25,7 +25,7 @@ fn append_decimal(n: u32, out: &mut [u8], at: usize) -> usize
     ensures text { λ r. ⌜ Appended (decimal n) at r (now (out .entry)) (now (out .exit)) ⌝ }
     ensures end { λ r. ⌜ r ≤ at + 10 ⌝ }
 {
-    let k = text::put_decimal(n, &mut out[at..]);
+    let k = put::put_decimal(n, &mut out[at..]);
     at + k
 }
 

@@ -1,69 +1,22 @@
 // The depth text: the work on a slice that stays the caller's, and the function that hands the written part back.
 ghost use mathlib.Core.Path.{_≡_};
-ghost use mathlib.Core.List.{_++_};
-ghost use Prim.Native.Nat.{_≤_, _<_};
 ghost use lib.ListN.{length};
-ghost use Rattle.rules.specs.Text.{heightText, decimal, cm};
+ghost use Rattle.rules.specs.Text.{heightText};
 ghost use Rattle.rules.specs.Calls.{textPart, textScratch};
-ghost use Rattle.text.specs.Put.{Put};
-
-// Copies text to the front of room and answers how many bytes, or answers 0 and changes nothing where the room is shorter.
-pub fn put_front(text: &[u8], room: &mut [u8]) -> usize
-    ensures { λ r. ⌜ Put (now (text .entry)) r (now (room .entry)) (now (room .exit)) ⌝ }
-{
-    if room.len() < text.len() {
-        return 0;
-    }
-    bytes::copy(text, room)
-}
-
-// The decimal digits of n at the front of room, and how many.
-pub fn put_decimal(n: u32, room: &mut [u8]) -> usize
-    requires { ⌜ 10 ≤ length (now room) ⌝ }
-    ensures { λ r. ⌜ Put (decimal n) r (now (room .entry)) (now (room .exit)) ⌝ }
-{
-    if n < 10 {
-        room[0] = 48 + n as u8;
-        return 1;
-    }
-    let k = put_decimal(n / 10, room);
-    room[k] = 48 + (n % 10) as u8;
-    k + 1
-}
-
-// The text of n centimetres in a room that has space for any.
-fn put_centimetres(n: u32, room: &mut [u8]) -> usize
-    requires { ⌜ 13 ≤ length (now room) ⌝ }
-    ensures { λ r. ⌜ Put (decimal n ++ cm) r (now (room .entry)) (now (room .exit)) ⌝ }
-{
-    let k = put_decimal(n, room);
-    room[k] = b' ';
-    room[k + 1] = b'c';
-    room[k + 2] = b'm';
-    k + 3
-}
-
-// The text of n centimetres.
-fn put_cm(n: u32, room: &mut [u8]) -> usize
-    ensures { λ r. ⌜ Put (decimal n ++ cm) r (now (room .entry)) (now (room .exit)) ⌝ }
-{
-    let mut text = [0u8; 13];
-    let k = put_centimetres(n, &mut text);
-    put_front(&text[..k], room)
-}
+ghost use Rattle.put.specs.Put.{Put};
 
 // The text of a height that is not negative.
 fn put_height(h: u32, room: &mut [u8]) -> usize
     ensures { λ r. ⌜ Put (heightText h) r (now (room .entry)) (now (room .exit)) ⌝ }
 {
     if h == 0 {
-        return put_front(b"dry", room);
+        return put::put_front(b"dry", room);
     }
     if h < 10000 {
-        return put_front(b"<1 cm", room);
+        return put::put_front(b"<1 cm", room);
     }
     if h <= 50000000 {
-        return put_cm((h + 5000) / 10000, room);
+        return put::put_cm((h + 5000) / 10000, room);
     }
     0
 }

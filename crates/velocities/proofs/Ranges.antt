@@ -14,7 +14,8 @@ use Rattle.laws.specs.Grids.{allAt-at}
 use Rattle.laws.specs.Sizes.{Within}
 use Rattle.laws.specs.Walls.{behind-has}
 use Rattle.laws.specs.Bounded.{new-low}
-use Rattle.face.specs.Ranges.{Height, Ground, Speed, Transfer, FaceFits}
+use Rattle.face.specs.Ranges.{Height, Speed, Transfer}
+use Rattle.momentum.specs.Fits.{Ground, FaceFits}
 use Rattle.heights.specs.Ways.{speeds, transfers}
 use Rattle.heights.proofs.Sites.{facts, depths, height-fits, speed-fits, crossed}
 use Rattle.heights.specs.Places.{FaceIn}

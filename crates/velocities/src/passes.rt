@@ -30,7 +30,7 @@ fn velocity(
     }
     let k = ways::back(east, i);
     let l = ways::back(!east, j);
-    face::new_velocity(
+    velocity::new_velocity(
         faces::face(card, east, ground, state, tide, k, l),
         card.dt,
         ways::side(card, east),
@@ -54,7 +54,7 @@ fn pass(
     for j in 0..up {
         for i in 0..across {
             let u = velocity(card, east, ground, state, tide, i, j);
-            if !face::speed_fits(u) {
+            if !velocity::speed_fits(u) {
                 return false;
             }
             lists::put(part, across, i, j, u as i32);

@@ -25,7 +25,7 @@ fn share_fits(
     requires { ⌜ AtFace card (now ground) (now state) (now tide) east i j ⌝ }
     ensures { λ r. ⌜ r ≡ shareFits card (now (ground .entry)) (now (state .entry)) east i j ⌝ }
 {
-    let share = face::own_share(faces::face(card, east, ground, state, tide, i, j));
+    let share = momentum::own_share(faces::face(card, east, ground, state, tide, i, j));
     0 <= share
 }
 

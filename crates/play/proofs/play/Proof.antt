@@ -1,5 +1,5 @@
 use native.Mathlib.Omega.{arith}
-use Rattle.text.proofs.Laws.{put-same}
+use Rattle.put.proofs.Laws.{put-same}
 use Rattle.print.proofs.Laws.{front-part, front-within, front-length}
 use borrow.Author.Needs.{needs}
 use Rattle.play.proofs.play.Statement.{statement}

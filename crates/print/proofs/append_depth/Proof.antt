@@ -1,5 +1,6 @@
 use borrow.Author.Needs.{needs}
-use Rattle.text.proofs.Laws.{told-put, put-same, signed-same}
+use Rattle.put.proofs.Laws.{put-same}
+use Rattle.text.proofs.Laws.{told-put, signed-same}
 use native.Mathlib.Omega.{arith}
 use Rattle.print.proofs.Laws.{put-appended, put-ends}
 use Rattle.print.proofs.Lengths.{length-depth}

@@ -1,4 +1,4 @@
-use Rattle.text.proofs.Laws.{put-fits, put-within}
+use Rattle.put.proofs.Laws.{put-fits, put-within}
 use borrow.Author.Needs.{needs}
 use Rattle.sheet_player.proofs.answer.Statement.{statement}
 use Rattle.sheet_player.proofs.answer.Tie as tie

@@ -1,5 +1,6 @@
 use mathlib.Core.Path.{refl, sym, _∙_}
-use Rattle.text.proofs.Laws.{put-same, told-put, signed-same, put-part, put-within, put-whole}
+use Rattle.put.proofs.Laws.{put-same, put-part, put-within, put-whole}
+use Rattle.text.proofs.Laws.{told-put, signed-same}
 use borrow.Author.Needs.{needs}
 use Rattle.rules.specs.Calls.{textPart}
 use Rattle.text.proofs.depth_text.Statement.{statement}

@@ -1,5 +1,6 @@
 use mathlib.Core.Path.{sym}
-use Rattle.text.proofs.Laws.{put-same, put-nil, text-dry, text-low, text-cm, text-over}
+use Rattle.put.proofs.Laws.{put-same, put-nil}
+use Rattle.text.proofs.Laws.{text-dry, text-low, text-cm, text-over}
 use borrow.Author.Needs.{needs}
 use Rattle.text.proofs.put_height.Statement.{statement}
 use Rattle.text.proofs.put_height.Tie as tie

@@ -1,5 +1,6 @@
 use mathlib.Core.Path.{sym}
-use Rattle.text.proofs.Laws.{put-same, put-told, put-nil, signed-none, signed-cast, signed-text}
+use Rattle.put.proofs.Laws.{put-same, put-nil}
+use Rattle.text.proofs.Laws.{put-told, signed-none, signed-cast, signed-text}
 use borrow.Author.Needs.{needs}
 use Rattle.text.proofs.write_text.Statement.{statement}
 use Rattle.text.proofs.write_text.Tie as tie

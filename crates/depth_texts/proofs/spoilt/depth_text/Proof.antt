@@ -5,8 +5,9 @@ use lib.ListN.{length, take, set}
 use lib.Seq.{take-set-le}
 use Rattle.rules.specs.Text.{depthText}
 use Rattle.rules.specs.Calls.{textPart}
-use Rattle.text.specs.Put.{Put}
-use Rattle.text.proofs.Laws.{put-same, told-put, signed-same, put-part, put-within, put-whole, put-fits}
+use Rattle.put.specs.Put.{Put}
+use Rattle.put.proofs.Laws.{put-same, put-part, put-within, put-whole, put-fits}
+use Rattle.text.proofs.Laws.{told-put, signed-same}
 use borrow.Author.Needs.{needs}
 use Rattle.depth_texts.proofs.spoilt.depth_text.Statement.{statement}
 use Rattle.depth_texts.proofs.spoilt.depth_text.Tie as tie

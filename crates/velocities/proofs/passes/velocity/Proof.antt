@@ -3,7 +3,7 @@ use mathlib.Core.Path.{_≡_, _∙_, sym, subst}
 use mathlib.Core.Bool.{false}
 use borrow.Author.Needs.{needs}
 use mir.Facts.{toZ-ofZ}
-use Rattle.face.specs.Ranges.{FaceFits}
+use Rattle.momentum.specs.Fits.{FaceFits}
 use Rattle.heights.specs.Ways.{isWall}
 use Rattle.heights.proofs.Pointing.{beside}
 use Rattle.heights.proofs.Sites.{time, side-fits}

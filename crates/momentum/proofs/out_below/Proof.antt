@@ -1,0 +1,21 @@
+use mir.Syntax.{w32}
+use Rattle.rules.specs.Step.{outBelow}
+use Rattle.laws.specs.Exact.{Node, fits, value, int, add, neg}
+use Rattle.momentum.proofs.out_below.Statement.{statement}
+use Rattle.momentum.proofs.out_below.Tie as tie
+
+abbrev sum : tie.After-struct-told2 → Node w32
+sum c = let r = c .before .before .pre in add (int (r .belowK) tt) (int (r .belowL) tt) tt
+
+add-result : tie.Need-add-result
+add-result c = fits (sum c)
+
+sub-result : tie.Need-sub-result
+sub-result c = fits (neg (sum c))
+
+returns : tie.Need-returns
+unfolding outBelow
+returns c = value (neg (sum c))
+
+pub out-below-spec : {M : Type 1} → statement M
+out-below-spec = tie.close (tie.spec add-result sub-result returns)

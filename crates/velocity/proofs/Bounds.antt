@@ -1,0 +1,19 @@
+-- How large a slope is.
+use Prim.Native.Nat.{ℕ, _*_}
+use native.Mathlib.Nat.{mul-le-mul-left}
+use native.Mathlib.Omega.{arith}
+use lib.Dec.{lit≤}
+use Rattle.rules.specs.declared.Face.{Face}
+use Rattle.rules.specs.Step.{rise, slope}
+use Rattle.laws.specs.Sizes.{Within, within-nat, within-add, within-sub, within-mul, within-quot}
+use Rattle.face.specs.Ranges.{Time, Side}
+use Rattle.face.proofs.Bounds.{height-within}
+use Rattle.momentum.specs.Fits.{FaceFits}
+
+pub slope-within : {f : Face} {dt d : ℕ} → FaceFits f → Time dt → Side d → Within 20000000000 (slope dt d f)
+unfolding slope rise
+slope-within {d = d} r t s =
+    within-quot 100000000 (1000 * d) 20000000000
+    (within-mul (within-nat (mul-le-mul-left 9806650 (t .high))) (within-sub (within-add (height-within (r .newL)) (r .groundL)) (within-add (height-within (r .newK)) (r .groundK))))
+    (lit≤ tt)
+    (omega (arith, s .low))

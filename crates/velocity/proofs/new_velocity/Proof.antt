@@ -1,0 +1,87 @@
+use mathlib.Core.Path.{_≡_, ap}
+use mathlib.Core.Bool.{true, false}
+use native.Mathlib.Omega.{arith}
+use borrow.Author.Tests.{eq-eqb, ne-eqb}
+use lib.IntN.{natAbs, _+ℤ_}
+use mir.Syntax.{w32, w64}
+use Rattle.rules.specs.Site.{isZero}
+use Rattle.rules.specs.Step.{newVelocity}
+use Rattle.laws.specs.Exact.{Node, fits, value, divides, is-zero, not-zero, int, result, add, sub, quot, cast}
+use Rattle.face.proofs.Bounds.{height-within}
+use Rattle.momentum.proofs.Bounds.{carried-within}
+use Rattle.velocity.proofs.Bounds.{slope-within}
+use Rattle.velocity.proofs.new_velocity.Statement.{statement}
+use Rattle.velocity.proofs.new_velocity.Tie as tie
+
+abbrev start : tie.After-struct-told2 → tie.Start
+start c = c .before .before
+
+abbrev test : tie.After-carried → tie.After-struct-told2
+test c = c .before .before
+
+-- the operations, in the code's order
+abbrev h : tie.After-struct-told2 → Node w32
+h c = let r = start c .pre .face in add (int (height-within (r .newK)) tt) (int (height-within (r .newL)) tt) tt
+
+abbrev all : tie.After-carried → Node w64
+all c = result (c .carried .ensures) (carried-within (start (test c) .pre .face)) tt
+
+abbrev sum : tie.After-carried → Node w64
+sum c = cast (h (test c)) tt
+
+abbrev shared : tie.After-carried → Node w64
+shared c = quot (all c) (sum c)
+
+abbrev new : tie.After-slope → Node w64
+new c =
+    let r = start (test (c .before)) .pre in
+    sub (shared (c .before)) (result (c .slope .ensures) (slope-within (r .face) (r .time) (r .side)) tt) tt
+
+-- what it returns; then that each operation fits
+returns : tie.Need-returns
+unfolding newVelocity
+returns c =
+    let f = start (c .before) .args .f in
+    let e : isZero (f .newK +ℤ f .newL) ≡ true = eq-eqb _ 0 (ap natAbs (is-zero (h (c .before)) (c .if1 .taken))) in
+    rw e
+
+wet : (c : tie.After-carried) → natAbs (h (test c) .z) ≡ 0 → ⊥
+wet c = not-zero (h (test c)) (c .before .if1 .left)
+
+add-h : tie.Need-add-h
+add-h c = fits (h c)
+
+carried-requires : tie.Need-carried-requires
+carried-requires c κs = start (c .before) .pre .face
+
+cast-result : tie.Need-cast-result
+cast-result c = fits (sum c)
+
+div-result : tie.Need-div-result
+div-result c = let w = wet c in divides (all c) (sum c) (omega arith)
+
+slope-requires : tie.Need-slope-requires
+slope-requires c κs = start (test c) .pre
+
+sub-result : tie.Need-sub-result
+sub-result c = fits (new c)
+
+returns-2 : tie.Need-returns-2
+unfolding newVelocity
+returns-2 c =
+    let f = start (test (c .before)) .args .f in
+    let e : isZero (f .newK +ℤ f .newL) ≡ false = ne-eqb _ 0 (wet (c .before)) in
+    rw e (value (new c))
+
+pub new-velocity-spec : {M : Type 1} → statement M
+new-velocity-spec =
+    tie.close
+    (tie.spec
+    add-h
+    carried-requires
+    cast-result
+    div-result
+    slope-requires
+    sub-result
+    returns
+    returns-2)

@@ -1,0 +1,42 @@
+// The new velocity of one face: what each function returns is a definition of `rules`. Two divisions.
+use rules::Face;
+ghost use mathlib.Core.Path.{_≡_};
+ghost use Rattle.rules.specs.Site.{speedFits};
+ghost use Rattle.rules.specs.Step as step;
+ghost use Rattle.velocity.specs.Fits.{InVelocity};
+
+fn slope(f: Face, dt: u32, d: u32) -> i64
+    requires { ⌜ InVelocity f dt d ⌝ }
+    ensures { λ r. ⌜ r ≡ step.slope dt d f ⌝ }
+{
+    let hk = f.newK;
+    let zk = f.groundK;
+    let hl = f.newL;
+    let zl = f.groundL;
+    let rise = (hl + zl) - (hk + zk);
+    let pull = 9806650 * (dt as i64) * (rise as i64);
+    let below = 1000 * (d as i64);
+    pull / below
+}
+
+// The new velocity of an inner face.
+pub fn new_velocity(f: Face, dt: u32, d: u32) -> i64
+    requires { ⌜ InVelocity f dt d ⌝ }
+    ensures { λ r. ⌜ r ≡ step.newVelocity dt d f ⌝ }
+{
+    let k = f.newK;
+    let l = f.newL;
+    let h = k + l;
+    if h == 0 {
+        0
+    } else {
+        momentum::carried(f) / (h as i64) - slope(f, dt, d)
+    }
+}
+
+// Whether a new velocity lies in its range.
+pub fn speed_fits(v: i64) -> bool
+    ensures { λ r. ⌜ r ≡ speedFits v ⌝ }
+{
+    -20000000 <= v && v <= 20000000
+}
