@@ -1,6 +1,5 @@
-// Finding chambers: the search over two lists of numbers; `row` has the parts of the search over a row of chamber records.
+// Finding chambers: the search over two lists of numbers.
 mod register;
-pub mod row;
 
 ghost use mathlib.Core.Path.{_≡_};
 ghost use lib.ListN.{length};

@@ -11,9 +11,9 @@ ghost use Rattle.rules.specs.Search.{askedFits, listedAt, listOf};
 ghost use Rattle.laws.specs.Between.{between};
 ghost use Rattle.search.specs.Checked.{Checked, Listed};
 use chamber::listed;
-use chamber::window::edges_finite;
 use rules::Card;
 use rules::Window;
+use window::edges_finite;
 
 // How far a site reaches along one axis.
 fn reach(count: u32, side: u32) -> i64
