@@ -9,7 +9,7 @@ ghost use Rattle.rules.specs.Grid.{all};
 ghost use Rattle.rules.specs.Site.{cardFits};
 ghost use Rattle.rules.specs.Search.{askedFits, listedAt, listOf};
 ghost use Rattle.laws.specs.Between.{between};
-ghost use Rattle.search.specs.Checked.{Checked, Listed};
+ghost use Rattle.register.specs.Checked.{Checked, Listed};
 use chamber::listed;
 use rules::Card;
 use rules::Window;

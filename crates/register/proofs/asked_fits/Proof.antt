@@ -7,8 +7,8 @@ use mir.Facts.{toZ-ofZ}
 use Rattle.rules.specs.Site.{heightFits}
 use Rattle.rules.specs.Search.{allAlong, askedFits}
 use Rattle.laws.specs.Facts.{card-facts}
-use Rattle.search.proofs.register.asked_fits.Statement.{statement}
-use Rattle.search.proofs.register.asked_fits.Tie as tie
+use Rattle.register.proofs.asked_fits.Statement.{statement}
+use Rattle.register.proofs.asked_fits.Tie as tie
 
 reach-requires : tie.Need-reach-requires
 reach-requires c κs = let f = card-facts _ (c .pre) in (f .columns-high, f .dx-high)

@@ -2,8 +2,8 @@
 use Prim.Native.Nat.{_-_}
 use native.Mathlib.Omega.{arith}
 use Rattle.laws.specs.Fronts.{Copied, copy-none, copy-more, copy-length, copy-all}
-use Rattle.search.proofs.register.copy_front.Statement.{statement}
-use Rattle.search.proofs.register.copy_front.Tie as tie
+use Rattle.register.proofs.copy_front.Statement.{statement}
+use Rattle.register.proofs.copy_front.Tie as tie
 
 abbrev Inv-loop : tie.InvT-loop
 Inv-loop draft n found₀ k₀ found k = Copied n draft found₀ k found

@@ -4,8 +4,8 @@ use mir.Syntax.{w64}
 use mir.Facts.{toZ-pos}
 use Prim.Native.Nat.{_*_, _<_, _^_}
 use Rattle.laws.specs.Along.{reach-high}
-use Rattle.search.proofs.register.reach.Statement.{statement}
-use Rattle.search.proofs.register.reach.Tie as tie
+use Rattle.register.proofs.reach.Statement.{statement}
+use Rattle.register.proofs.reach.Tie as tie
 
 mul-far : tie.Need-mul-far
 mul-far c = omega (arith, reach-high (c .pre .0) (c .pre .1))

@@ -12,9 +12,9 @@ use mir.Val.{toZ}
 use mir.Facts.{toZ-ofZ}
 use Rattle.rules.specs.Search.{listedAt, listOf, places}
 use Rattle.laws.specs.Listings.{Listing, list-none, list-few, list-length, list-yes, list-no, list-all}
-use Rattle.search.specs.Checked.{Listed}
-use Rattle.search.proofs.register.list.Statement.{statement}
-use Rattle.search.proofs.register.list.Tie as tie
+use Rattle.register.specs.Checked.{Listed}
+use Rattle.register.proofs.list.Statement.{statement}
+use Rattle.register.proofs.list.Tie as tie
 
 abbrev Inv-loop : tie.InvT-loop
 Inv-loop card state window depth xs ys draft₀ n₀ k₀ draft n k = Listing (length xs) (listedAt card state window (toZ w32 depth) xs ys) draft₀ k n draft

@@ -9,8 +9,8 @@ use mir.Syntax.{w64}
 use mir.Facts.{toZ-ofZ}
 use Rattle.laws.specs.Between.{between}
 use Rattle.laws.specs.Gather.{Gathered, gather-none, gather-more, gather-all}
-use Rattle.search.proofs.register.all_along.Statement.{statement}
-use Rattle.search.proofs.register.all_along.Tie as tie
+use Rattle.register.proofs.all_along.Statement.{statement}
+use Rattle.register.proofs.all_along.Tie as tie
 
 abbrev Inv-loop : tie.InvT-loop
 Inv-loop far xs ok₀ k₀ k-end ok k = Gathered (length xs) (λ k. between (pos 0) (toZ w64 far) (getD xs k (pos 0))) ok k

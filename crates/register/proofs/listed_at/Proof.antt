@@ -10,8 +10,8 @@ use mir.Val.{toZ, ofZ}
 use mir.Facts.{toZ-ofZ}
 use Rattle.rules.specs.Search.{alongFits}
 use Rattle.laws.specs.Along.{all-along}
-use Rattle.search.proofs.register.listed_at.Statement.{statement}
-use Rattle.search.proofs.register.listed_at.Tie as tie
+use Rattle.register.proofs.listed_at.Statement.{statement}
+use Rattle.register.proofs.listed_at.Tie as tie
 
 mul-listed : tie.Need-mul-listed
 mul-listed c = search needs
