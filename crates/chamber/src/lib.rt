@@ -1,6 +1,4 @@
-// One chamber: whether the window holds it, its cell, and whether it is listed.
-pub mod window;
-
+// One chamber: its cell, and whether it is listed.
 ghost use mathlib.Core.Path.{_≡_};
 ghost use Prim.Native.Nat.{_<_, _≤_};
 ghost use lib.IntN.{pos};

@@ -18,7 +18,8 @@ use Rattle.laws.specs.Asked.{asked-facts, places-passed, places-refused, number
 use Rattle.laws.specs.Facts.{length-facts}
 use Rattle.laws.specs.Outcomes.{if-refused}
 use Rattle.laws.specs.Tests.{four-of, to-T, true-of}
-use Rattle.search.specs.Checked.{Checked, Reported}
+use Rattle.register.specs.Checked.{Checked}
+use Rattle.search.specs.Reported.{Reported}
 
 -- what a call leaves where there is room for its list, and where not
 room : (enough : Bool) (done refused : List ℕ) → ifDone (cond enough 0 8) done refused ≡ cond enough done refused

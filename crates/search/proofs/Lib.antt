@@ -1,3 +1,1 @@
 pub mod Answers
-pub mod Numbers
-pub mod Rows

@@ -1,3 +1,1 @@
-pub mod Checked
-pub mod Gathered
-pub mod Row
+pub mod Reported

@@ -1,12 +1,9 @@
-// Finding chambers: the search over two lists of numbers; `row` has the parts of the search over a row of chamber records.
-mod register;
-pub mod row;
-
+// Finding chambers: the search over two lists of numbers.
 ghost use mathlib.Core.Path.{_≡_};
 ghost use lib.ListN.{length};
 ghost use Rattle.rules.specs.Calls.{searchCheck};
 ghost use Rattle.rules.specs.Contracts.{SearchContract};
-ghost use Rattle.search.specs.Checked.{Reported, DraftRoom};
+ghost use Rattle.search.specs.Reported.{DraftRoom, Reported};
 use rules::Card;
 use rules::Found;
 use rules::Window;

@@ -65,12 +65,12 @@ pub extern "C" fn water_search(
 ) -> Found
     ensures { λ r. ⌜ RowSearchContract card (now (ground .entry)) (now (state .entry)) (now (chambers .entry)) window depth (now (found .entry)) r (now (found .exit)) ⌝ }
 {
-    let read = search::row::to_read(card, ground, state, chambers.len());
-    search::row::search_gathered(
+    let read = records::to_read(card, ground, state, chambers.len());
+    records::search_gathered(
         card,
         ground,
         state,
-        search::row::gather(chambers, read),
+        records::gather(chambers, read),
         chambers.len(),
         window,
         depth,

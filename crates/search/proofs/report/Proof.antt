@@ -11,7 +11,7 @@ use lib.Seq.{take-at}
 use mir.Facts.{toZ-ofZ}
 use Rattle.rules.specs.Search.{listOf, listedAt}
 use Rattle.laws.specs.Listings.{places-few}
-use Rattle.search.specs.Checked.{Listed}
+use Rattle.register.specs.Checked.{Listed}
 use Rattle.search.proofs.report.Statement.{statement}
 use Rattle.search.proofs.report.Tie as tie
 

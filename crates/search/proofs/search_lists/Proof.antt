@@ -4,7 +4,7 @@ use mathlib.Core.Path.{_≡_, sym, _∙_, subst}
 use lib.IntN.{ℤ}
 use mir.Facts.{toZ-ofZ}
 use Rattle.rules.specs.Calls.{searchCheck}
-use Rattle.search.specs.Checked.{Reported}
+use Rattle.search.specs.Reported.{Reported}
 use Rattle.search.proofs.Answers.{checked-of, refused, answered}
 use Rattle.search.proofs.search_lists.Statement.{statement}
 use Rattle.search.proofs.search_lists.Tie as tie

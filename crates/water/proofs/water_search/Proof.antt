@@ -52,22 +52,22 @@ use Rattle.rules.proofs.Window as WT
 use Rattle.rules.proofs.Window.Laws as WT′
 use Rattle.rules.proofs.Found as FT
 use Rattle.rules.proofs.Found.Laws as FT′
-use Rattle.search.specs.Row.{toRead, Readable, gathered}
-use Rattle.search.specs.Gathered.{GatheredAnswer}
-use Rattle.search.proofs.Numbers.{Numbers, typed}
-use Rattle.search.proofs.Rows.{readable, row-answers}
-use Rattle.search.proofs.row.to_read as reading
-use Rattle.search.proofs.row.to_read.Symbol as reading-def
-use Rattle.search.proofs.row.to_read.Symbol.{name as #to-read}
-use Rattle.search.proofs.row.to_read.Met as reading-thm
-use Rattle.search.proofs.row.gather as gather
-use Rattle.search.proofs.row.gather.Symbol as gather-def
-use Rattle.search.proofs.row.gather.Symbol.{name as #gather}
-use Rattle.search.proofs.row.gather.Met as gather-thm
-use Rattle.search.proofs.row.search_gathered as core
-use Rattle.search.proofs.row.search_gathered.Symbol as core-def
-use Rattle.search.proofs.row.search_gathered.Symbol.{name as #search-gathered}
-use Rattle.search.proofs.row.search_gathered.Met as core-thm
+use Rattle.records.specs.Row.{toRead, Readable, gathered}
+use Rattle.records.specs.Gathered.{GatheredAnswer}
+use Rattle.records.proofs.Numbers.{Numbers, typed}
+use Rattle.records.proofs.Rows.{readable, row-answers}
+use Rattle.records.proofs.to_read as reading
+use Rattle.records.proofs.to_read.Symbol as reading-def
+use Rattle.records.proofs.to_read.Symbol.{name as #to-read}
+use Rattle.records.proofs.to_read.Met as reading-thm
+use Rattle.records.proofs.gather as gather
+use Rattle.records.proofs.gather.Symbol as gather-def
+use Rattle.records.proofs.gather.Symbol.{name as #gather}
+use Rattle.records.proofs.gather.Met as gather-thm
+use Rattle.records.proofs.search_gathered as core
+use Rattle.records.proofs.search_gathered.Symbol as core-def
+use Rattle.records.proofs.search_gathered.Symbol.{name as #search-gathered}
+use Rattle.records.proofs.search_gathered.Met as core-thm
 use Rattle.water.proofs.water_search.Key.{name as #search}
 use Rattle.water.proofs.water_search as searching
 use Rattle.water.proofs.water_search.Statement as stated
@@ -322,6 +322,6 @@ water-search-spec 𝓤 H 𝓜 𝓖 𝓡 =
     entered 𝓤 H (tripleOf 𝓤 H (𝓖 .A) searching.signature (searching.spec 𝓤 H (𝓖 .A) (𝓜 .mem) (𝓡 .run)))
     (tables 𝓤 H 𝓜 𝓡 code.env .C) (tables 𝓤 H 𝓜 𝓡 code.env .Λ) #search code.function (code.unfolded 𝓤 H 𝓜 𝓡)
     (search-meets 𝓤 H (𝓖 .A) (givenOf 𝓤 H 𝓜 𝓖) (𝓜 .mem) (𝓡 .run) (tablesOf 𝓤 H 𝓜 (tables 𝓤 H 𝓜 𝓡 code.env))
-    (cited 𝓤 H (Read 𝓤 H (𝓖 .A) (𝓜 .mem) (𝓡 .run)) 𝓜 𝓡 code.env #to-read reading-def.routine code.calls-search·row·to-read (reading-thm.met 𝓤 H 𝓜 𝓖 𝓡))
-    (cited 𝓤 H (Gather 𝓤 H (𝓖 .A) (𝓜 .mem) (𝓡 .run)) 𝓜 𝓡 code.env #gather gather-def.routine code.calls-search·row·gather (gather-thm.met 𝓤 H 𝓜 𝓖 𝓡))
-    (cited 𝓤 H (Core 𝓤 H (𝓖 .A) (𝓜 .mem) (𝓡 .run)) 𝓜 𝓡 code.env #search-gathered core-def.routine code.calls-search·row·search-gathered (core-thm.met 𝓤 H 𝓜 𝓖 𝓡)))
+    (cited 𝓤 H (Read 𝓤 H (𝓖 .A) (𝓜 .mem) (𝓡 .run)) 𝓜 𝓡 code.env #to-read reading-def.routine code.calls-records·to-read (reading-thm.met 𝓤 H 𝓜 𝓖 𝓡))
+    (cited 𝓤 H (Gather 𝓤 H (𝓖 .A) (𝓜 .mem) (𝓡 .run)) 𝓜 𝓡 code.env #gather gather-def.routine code.calls-records·gather (gather-thm.met 𝓤 H 𝓜 𝓖 𝓡))
+    (cited 𝓤 H (Core 𝓤 H (𝓖 .A) (𝓜 .mem) (𝓡 .run)) 𝓜 𝓡 code.env #search-gathered core-def.routine code.calls-records·search-gathered (core-thm.met 𝓤 H 𝓜 𝓖 𝓡)))
