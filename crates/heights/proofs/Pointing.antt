@@ -12,16 +12,16 @@ use Rattle.rules.specs.Site.{Water, stateLength, readState}
 use Rattle.rules.specs.Step.{transfer, eastTransfer, northTransfer}
 use Rattle.laws.specs.Places.{east-in, north-in, east-read, north-read}
 use Rattle.laws.specs.Lines.{no-end, walled-is}
-use Rattle.heights.specs.Ways.{across, up, first, side, isWall, back, forth, speeds, transfers}
+use Rattle.heights.specs.Ways.{wide, high, first, side, isWall, back, forth, speeds, transfers}
 use Rattle.heights.specs.Places.{FaceIn}
 
-pub face-in : (c : Card) (east : Bool) {n i j : ℕ} → n ≡ stateLength c → FaceIn c east i j → first c east + (j * across c east + i) < n
-unfolding across up first
+pub face-in : (c : Card) (east : Bool) {n i j : ℕ} → n ≡ stateLength c → FaceIn c east i j → first c east + (j * wide c east + i) < n
+unfolding wide high first
 face-in c true {n} {i} {j} e f = let h : i ≤ c .columns = omega (arith, f .column) in omega (arith, east-in c e h (f .row))
 face-in c false {n} {i} {j} e f = let h : j ≤ c .rows = omega (arith, f .row) in omega (arith, north-in c e (f .column) h)
 
-pub face-read : (c : Card) (s : List ℤ) (east : Bool) (i j : ℕ) → getD s (first c east + (j * across c east + i)) (pos 0) ≡ speeds (readState c s) east i j
-unfolding across first speeds
+pub face-read : (c : Card) (s : List ℤ) (east : Bool) (i j : ℕ) → getD s (first c east + (j * wide c east + i)) (pos 0) ≡ speeds (readState c s) east i j
+unfolding wide first speeds
 face-read c s true i j = rw (← add-one) (east-read c s i j)
 face-read c s false i j = rw (← add-one) (north-read c s i j)
 
@@ -42,7 +42,7 @@ pub record Beside (c : Card) (east : Bool) (i j : ℕ) : Type 0 where
 
 module _ (c : Card) where
   pub beside : (east : Bool) (i j : ℕ) → FaceIn c east i j → isWall c east i j ≡ false → Beside c east i j
-  unfolding across up isWall back
+  unfolding wide high isWall back
   beside true i j f e =
       let k = no-end (c .columns) i e in
       record { back-east = λ t. k .low; back-north = λ t. absurd (false≢true t); columnK = omega (arith, f .column); rowK = f .row; columnL = omega (arith, f .column); rowL = f .row }
@@ -55,7 +55,7 @@ module _ (c : Card) where
     line : (east : Bool) (i j : ℕ) → FaceIn c east i j
         → transfers c w east i j ≡ cond (isWall c east i j) (pos 0) (transfer (c .dt) (side c east) (w .height (back east i) (back (not east) j)) (w .height (forth east (back east i)) (forth (not east) (back (not east) j)))
         (speeds w east (forth east (back east i)) (forth (not east) (back (not east) j))))
-    unfolding across up isWall transfers eastTransfer northTransfer side back forth speeds
+    unfolding wide high isWall transfers eastTransfer northTransfer side back forth speeds
     line true i j f = let h : i ≤ c .columns = omega (arith, f .column) in walled-is (c .columns) _ i h
     line false i j f = let h : j ≤ c .rows = omega (arith, f .row) in walled-is (c .rows) _ j h
 

@@ -18,7 +18,7 @@ use Rattle.laws.specs.Facts.{Fits, sound-facts}
 use Rattle.laws.specs.Bounded as bounded
 use Rattle.heights.specs.Places.{HeightPlace, FaceIn, FacePlace}
 use Rattle.heights.specs.Known.{SoundState, Limited}
-use Rattle.heights.specs.Ways.{across, up, side, speeds, transfers}
+use Rattle.heights.specs.Ways.{wide, high, side, speeds, transfers}
 use Rattle.face.specs.Ranges.{Height, Speed, Time, Side}
 
 -- a word that a call returned is in its range where the number that it stands for is
@@ -28,9 +28,9 @@ within-word {n} z h e b = subst (λ (y : ℤ). Within n y) (sym (word-is z h e))
 pub height-word : (z : ℤ) {x : ℤ} → mag z < 2 ^ 31 → z ≡ x → Height x → Height (toZ w32 (ofZ w32 z))
 height-word z h e b = subst Height (sym (word-is z h e)) b
 
-high : (z : ℤ) (n : ℕ) → T (leZ (pos 0) z) → natAbs z ≤ n → T (leZ z (pos n))
-high (pos k) n t h = le→leb k n h
-high (negsuc k) n t h = absurd t
+at-most : (z : ℤ) (n : ℕ) → T (leZ (pos 0) z) → natAbs z ≤ n → T (leZ z (pos n))
+at-most (pos k) n t h = le→leb k n h
+at-most (negsuc k) n t h = absurd t
 
 module _ {c : Card} {s : List ℤ} (sound : SoundState c s) where
   pub facts : Fits c (sound .ground) s
@@ -50,7 +50,7 @@ module _ {c : Card} {s : List ℤ} (sound : SoundState c s) where
   pub height-fits : (i j : ℕ) → i < c .columns → j < c .rows → Height (readState c s .height i j)
   height-fits i j hi hj =
       let low = facts .height-low-at i j hi hj in
-      record { low = low; high = high (readState c s .height i j) 50000000 low (facts .height-high-at i j hi hj) }
+      record { low = low; high = at-most (readState c s .height i j) 50000000 low (facts .height-high-at i j hi hj) }
 
   pub height-within : (i j : ℕ) → i < c .columns → j < c .rows → Within 50000000 (readState c s .height i j)
   height-within i j hi hj = record { size = facts .height-high-at i j hi hj }
@@ -81,7 +81,7 @@ module _ {c : Card} {s : List ℤ} (sound : SoundState c s) where
 
 module _ {c : Card} {s : List ℤ} (limited : Limited c s) where
   pub crossed : (east : Bool) (i j : ℕ) → FaceIn c east i j → Within 50000000 (transfers c (readState c s) east i j)
-  unfolding across up transfers
+  unfolding wide high transfers
   crossed true i j f =
       let card = facts (limited .sound) .card in
       bounded.east-within c (readState c s) (omega arith) (omega arith) (depths (limited .sound)) (to-T (limited .limit)) i j (f .row)

@@ -13,7 +13,7 @@ use Rattle.laws.specs.Facts.{Sound}
 use Rattle.face.specs.Ranges.{InTransfer}
 use Rattle.heights.specs.Places.{FaceIn}
 use Rattle.heights.specs.Tide.{crossings}
-use Rattle.heights.specs.Ways.{across, up}
+use Rattle.heights.specs.Ways.{wide, high}
 
 -- the state of a sound site, over some ground
 pub record SoundState (c : Card) (s : List ℤ) : Type 0 where
@@ -44,7 +44,7 @@ pub record InCrossing (hK hL u : ℤ) (dt d : ℕ) : Type 0 where
 -- room for what crosses the faces of one way, and for both
 pub record FacesRoom (c : Card) (s : List ℤ) (east : Bool) (part : List ℤ) : Type 0 where
   pub limited : Limited c s
-  pub long : length part ≡ up c east * across c east
+  pub long : length part ≡ high c east * wide c east
 
 pub record CrossingsRoom (c : Card) (s part : List ℤ) : Type 0 where
   pub limited : Limited c s

@@ -8,7 +8,7 @@ use lib.ListN.{length}
 use Rattle.rules.specs.declared.Card.{Card}
 use Rattle.rules.specs.Site.{stateLength}
 use Rattle.laws.specs.Facts.{Ranges}
-use Rattle.heights.specs.Ways.{across, up}
+use Rattle.heights.specs.Ways.{wide, high}
 
 -- a cell, in a list that has the layout of a state
 pub record HeightPlace (c : Card) (s : List ℤ) (i j : ℕ) : Type 0 where
@@ -18,8 +18,8 @@ pub record HeightPlace (c : Card) (s : List ℤ) (i j : ℕ) : Type 0 where
 
 -- a face: an inner one or a wall
 pub record FaceIn (c : Card) (east : Bool) (i j : ℕ) : Type 0 where
-  pub column : i < across c east
-  pub row : j < up c east
+  pub column : i < wide c east
+  pub row : j < high c east
 
 -- and in such a list
 pub record FacePlace (c : Card) (s : List ℤ) (east : Bool) (i j : ℕ) : Type 0 where

@@ -9,13 +9,13 @@ use Rattle.rules.specs.Site.{Water}
 use Rattle.rules.specs.Step.{eastTransfer, northTransfer}
 
 -- the columns and the rows of the grid of these faces, and where it starts in a state
-unfoldable pub across : Card → Bool → ℕ
-across c true = suc (c .columns)
-across c false = c .columns
+unfoldable pub wide : Card → Bool → ℕ
+wide c true = suc (c .columns)
+wide c false = c .columns
 
-unfoldable pub up : Card → Bool → ℕ
-up c true = c .rows
-up c false = suc (c .rows)
+unfoldable pub high : Card → Bool → ℕ
+high c true = c .rows
+high c false = suc (c .rows)
 
 unfoldable pub first : Card → Bool → ℕ
 first c true = c .rows * c .columns

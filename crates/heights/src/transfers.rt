@@ -37,13 +37,13 @@ fn over_face(card: Card, east: bool, state: &[i32], i: usize, j: usize) -> i32
 // What crosses every face of this way.
 fn over_faces(card: Card, east: bool, state: &[i32], part: &mut [i32])
     requires { ⌜ FacesRoom card (now state) east (now part) ⌝ }
-    ensures { λ r. ⌜ now (part .exit) ≡ grid (Ways.across card east) (Ways.up card east) (Ways.transfers card (readState card (now (state .entry))) east) ⌝ }
+    ensures { λ r. ⌜ now (part .exit) ≡ grid (Ways.wide card east) (Ways.high card east) (Ways.transfers card (readState card (now (state .entry))) east) ⌝ }
 {
-    let across = ways::across(card, east);
-    let up = ways::up(card, east);
-    for j in 0..up {
-        for i in 0..across {
-            lists::put(part, across, i, j, over_face(card, east, state, i, j));
+    let wide = ways::wide(card, east);
+    let high = ways::high(card, east);
+    for j in 0..high {
+        for i in 0..wide {
+            lists::put(part, wide, i, j, over_face(card, east, state, i, j));
         }
     }
 }

@@ -7,8 +7,8 @@ ghost use Rattle.heights.specs.Ways as Ways;
 use rules::Card;
 
 // The columns of the grid of these faces.
-pub fn across(card: Card, east: bool) -> usize
-    ensures { λ r. ⌜ r ≡ Ways.across card east ⌝ }
+pub fn wide(card: Card, east: bool) -> usize
+    ensures { λ r. ⌜ r ≡ Ways.wide card east ⌝ }
 {
     let columns = card.columns as usize;
     if east {
@@ -18,8 +18,8 @@ pub fn across(card: Card, east: bool) -> usize
 }
 
 // Its rows.
-pub fn up(card: Card, east: bool) -> usize
-    ensures { λ r. ⌜ r ≡ Ways.up card east ⌝ }
+pub fn high(card: Card, east: bool) -> usize
+    ensures { λ r. ⌜ r ≡ Ways.high card east ⌝ }
 {
     let rows = card.rows as usize;
     if east {

@@ -21,6 +21,6 @@ pub fn face_at(card: Card, east: bool, state: &[i32], i: usize, j: usize) -> i32
     ensures { λ r. ⌜ r ≡ speeds (readState card (now (state .entry))) east i j ⌝ }
 {
     let first = ways::first(card, east);
-    let across = ways::across(card, east);
-    lists::word(state, first, across, i, j)
+    let wide = ways::wide(card, east);
+    lists::word(state, first, wide, i, j)
 }

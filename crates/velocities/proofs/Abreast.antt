@@ -12,19 +12,19 @@ use Rattle.rules.specs.Site.{Water}
 use Rattle.rules.specs.Step.{after}
 use Rattle.laws.specs.Tests.{and-left, and-right, to-T}
 use Rattle.laws.specs.Lines.{before-is}
-use Rattle.heights.specs.Ways.{across, up, back, speeds, forth}
+use Rattle.heights.specs.Ways.{wide, high, back, speeds, forth}
 use Rattle.heights.specs.Places.{FaceIn}
 use Rattle.velocities.specs.Around.{speedAbove, speedBelow}
 
 module _ {c : Card} {i j : ℕ} where
   -- the next one, and where there is one
   pub above-is : (w : Water) (east : Bool) → FaceIn c east i j
-      → speedAbove c w east i j ≡ cond (ltb (forth (not east) i) (across c east) && ltb (forth east j) (up c east)) (speeds w east (forth (not east) i) (forth east j)) (pos 0)
-  unfolding across up forth speedAbove after
+      → speedAbove c w east i j ≡ cond (ltb (forth (not east) i) (wide c east) && ltb (forth east j) (high c east)) (speeds w east (forth (not east) i) (forth east j)) (pos 0)
+  unfolding wide high forth speedAbove after
   above-is w true p = rw (lt-ltb i (suc (c .columns)) (p .column))
   above-is w false p = rw (lt-ltb j (suc (c .rows)) (p .row), and-true)
 
-  pub above-in : (east : Bool) {m n : ℕ} → m ≡ across c east → n ≡ up c east → (ltb i m && ltb j n) ≡ true → FaceIn c east i j
+  pub above-in : (east : Bool) {m n : ℕ} → m ≡ wide c east → n ≡ high c east → (ltb i m && ltb j n) ≡ true → FaceIn c east i j
   above-in east {m} {n} d e t =
       record {
         column = rw d at (ltb→lt i m (and-left (ltb i m) (ltb j n) (to-T t)));
@@ -33,7 +33,7 @@ module _ {c : Card} {i j : ℕ} where
 
   -- the one before
   pub below-in : (east : Bool) → FaceIn c east i j → FaceIn c east (back (not east) i) (back east j)
-  unfolding across up back
+  unfolding wide high back
   below-in true p = record { column = p .column; row = omega arith }
   below-in false p = record { column = omega arith; row = p .row }
 

@@ -11,7 +11,7 @@ use Rattle.rules.specs.Grid.{Field}
 use Rattle.rules.specs.Site.{Water}
 use Rattle.rules.specs.Step.{eastFace, northFace}
 use Rattle.laws.specs.Lines.{no-end}
-use Rattle.heights.specs.Ways.{across, up, isWall, back, speeds, transfers, forth}
+use Rattle.heights.specs.Ways.{wide, high, isWall, back, speeds, transfers, forth}
 use Rattle.heights.specs.Places.{FaceIn}
 use Rattle.velocities.specs.Around.{speedAbove, speedBelow, gatheredFace}
 use Rattle.velocities.specs.Faces.{Flowing, AtFace, innerFace}
@@ -34,12 +34,12 @@ pub record Cell (c : Card) (i j : ℕ) : Type 0 where
 
 module _ {c : Card} {i j : ℕ} where
   pub near-in : (east : Bool) → Cell c i j → FaceIn c east i j
-  unfolding across up
+  unfolding wide high
   near-in true k = record { column = omega arith; row = omega arith }
   near-in false k = record { column = omega arith; row = omega arith }
 
   pub far-in : (east : Bool) → Cell c i j → FaceIn c east (forth east i) (forth (not east) j)
-  unfolding across up forth
+  unfolding wide high forth
   far-in true k = record { column = omega arith; row = omega arith }
   far-in false k = record { column = omega arith; row = omega arith }
 
@@ -54,7 +54,7 @@ module _ {c : Card} {g s t : List ℤ} {east : Bool} {i j : ℕ} (a : AtFace c g
 
 -- a face that is no wall has a cell behind it
 pub inner-at : {c : Card} {g s t : List ℤ} {i j : ℕ} → Flowing c g s t → (east : Bool) → FaceIn c east i j → isWall c east i j ≡ false → AtFace c g s t east (back east i) (back (not east) j)
-unfolding across up isWall back forth
+unfolding wide high isWall back forth
 inner-at {c} {g} {s} {t} {i} {j} f true p e = let line = no-end (c .columns) i e in record { flowing = f; column = omega arith; row = p .row }
 inner-at {c} {g} {s} {t} {i} {j} f false p e = let line = no-end (c .rows) j e in record { flowing = f; column = p .column; row = omega arith }
 

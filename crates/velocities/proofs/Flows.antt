@@ -16,7 +16,7 @@ use Rattle.laws.specs.Reading.{long-of, height-read, east-read, north-read}
 use Rattle.heights.proofs.Sites.{facts}
 use Rattle.heights.specs.Known.{SoundState}
 use Rattle.heights.specs.Tide.{tide}
-use Rattle.heights.specs.Ways.{across, up, speeds, transfers}
+use Rattle.heights.specs.Ways.{wide, high, speeds, transfers}
 use Rattle.heights.specs.Places.{FaceIn, FacePlace}
 use Rattle.velocities.specs.Faces.{Flowing}
 use Rattle.velocities.proofs.Around.{Cell}
@@ -50,6 +50,6 @@ module _ {c : Card} {g s t : List ℤ} (f : Flowing c g s t) where
     in-tide p = record { card = facts sound-of .card; long = long-of (f .tide); face = p }
 
     pub crossed-is : (east : Bool) → FaceIn c east i j → speeds (readState c t) east i j ≡ transfers c (readState c s) east i j
-    unfolding across up speeds transfers tide readState
+    unfolding wide high speeds transfers tide readState
     crossed-is true p = let h : i ≤ c .columns = omega arith in east-read (f .tide) i j h (p .row) refl
     crossed-is false p = let h : j ≤ c .rows = omega arith in north-read (f .tide) i j (p .column) h refl

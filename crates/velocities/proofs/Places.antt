@@ -5,11 +5,11 @@ use mathlib.Core.List.{List}
 use native.Mathlib.Omega.{arith}
 use lib.IntN.{ℤ}
 use Rattle.rules.specs.declared.Card.{Card}
-use Rattle.heights.specs.Ways.{across, up}
+use Rattle.heights.specs.Ways.{wide, high}
 use Rattle.heights.specs.Places.{FacePlace}
 
 module _ {c : Card} {l : List ℤ} {i j : ℕ} where
   pub in-range : (east : Bool) → FacePlace c l east i j → (i ≤ 128) × (j ≤ 128)
-  unfolding across up
+  unfolding wide high
   in-range true p = (omega arith, omega arith)
   in-range false p = (omega arith, omega arith)

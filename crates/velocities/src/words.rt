@@ -40,7 +40,7 @@ pub fn above(card: Card, east: bool, state: &[i32], i: usize, j: usize) -> i32
 {
     let column = ways::forth(!east, i);
     let row = ways::forth(east, j);
-    if (column < ways::across(card, east)) & (row < ways::up(card, east)) {
+    if (column < ways::wide(card, east)) & (row < ways::high(card, east)) {
         return face_at(card, east, state, column, row);
     }
     0

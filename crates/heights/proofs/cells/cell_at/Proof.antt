@@ -5,7 +5,7 @@ use native.Mathlib.Omega.{arith}
 use borrow.Author.Needs.{needs}
 use Rattle.rules.specs.Site.{readState}
 use Rattle.laws.specs.Signed.{word-is}
-use Rattle.heights.specs.Ways.{across, up, speeds}
+use Rattle.heights.specs.Ways.{wide, high, speeds}
 use Rattle.heights.specs.Cells.{cellAt}
 use Rattle.heights.proofs.cells.cell_at.Statement.{statement}
 use Rattle.heights.proofs.cells.cell_at.Tie as tie
@@ -14,25 +14,25 @@ height-at-requires : tie.Need-height-at-requires
 height-at-requires c κs = search needs
 
 face-at-requires : tie.Need-face-at-requires
-unfolding across up
+unfolding wide high
 face-at-requires c κs = let p = c .before .pre in record { card = p .card; long = p .faces; face = record { column = omega (arith, p .column); row = p .row } }
 
 add-face-at : tie.Need-add-face-at
 add-face-at c = search needs
 
 face-at-requires-2 : tie.Need-face-at-requires-2
-unfolding across up
+unfolding wide high
 face-at-requires-2 c κs = let p = c .before .before .pre in record { card = p .card; long = p .faces; face = record { column = omega (arith, p .column); row = p .row } }
 
 face-at-requires-3 : tie.Need-face-at-requires-3
-unfolding across up
+unfolding wide high
 face-at-requires-3 c κs = let p = c .before .before .before .pre in record { card = p .card; long = p .faces; face = record { column = p .column; row = omega (arith, p .row) } }
 
 add-face-at-2 : tie.Need-add-face-at-2
 add-face-at-2 c = search needs
 
 face-at-requires-4 : tie.Need-face-at-requires-4
-unfolding across up
+unfolding wide high
 face-at-requires-4 c κs = let p = c .before .before .before .before .pre in record { card = p .card; long = p .faces; face = record { column = p .column; row = omega (arith, p .row) } }
 
 returns : tie.Need-returns

@@ -6,7 +6,7 @@ use lib.Seq.{length-take-le}
 use Rattle.laws.specs.Grids.{length-grid}
 use Rattle.laws.specs.Parts.{two-parts, length-part}
 use Rattle.heights.specs.Tide.{crossings}
-use Rattle.heights.specs.Ways.{across, up, transfers}
+use Rattle.heights.specs.Ways.{wide, high, transfers}
 use Rattle.heights.proofs.transfers.both_ways.Statement.{statement}
 use Rattle.heights.proofs.transfers.both_ways.Tie as tie
 
@@ -32,7 +32,7 @@ slice-aggregate-over-faces : tie.Need-slice-aggregate-over-faces
 slice-aggregate-over-faces c = sym (length-take-le _ _ (omega arith))
 
 over-faces-requires : tie.Need-over-faces-requires
-unfolding across up
+unfolding wide high
 over-faces-requires c κs =
     let start = c .before .before .before in
     record { limited = start .pre .limited; long = length-part (easts start) (start .args .part .now) (omega arith) (omega arith) }
@@ -50,14 +50,14 @@ part-over-faces-end : tie.Need-part-over-faces-end
 part-over-faces-end c = search needs
 
 over-faces-requires-2 : tie.Need-over-faces-requires-2
-unfolding across up
+unfolding wide high
 over-faces-requires-2 c κs = search needs
 
 same-length : tie.Need-same-length
 same-length c = search needs
 
 returns : tie.Need-returns
-unfolding crossings across up transfers
+unfolding crossings wide high transfers
 returns c =
     let start = c .before .before .before .before .before .before .before .before in
     let same : start .args .card .rows * suc (start .args .card .columns) ≡ easts start = omega arith in

@@ -13,26 +13,26 @@ use Rattle.heights.proofs.transfers.over_faces.Statement.{statement}
 use Rattle.heights.proofs.transfers.over_faces.Tie as tie
 
 abbrev Inv-loop2 : tie.InvT-loop2
-Inv-loop2 card east state part₀ across up j i₀ part i = Cells across (transfers card (readState card state) east) up j part₀ part i
+Inv-loop2 card east state part₀ wide high j i₀ part i = Cells wide (transfers card (readState card state) east) high j part₀ part i
 
 abbrev μ-loop2 : tie.MeasureT-loop2
-μ-loop2 card east state part₀ across up j i₀ part i = across - i
+μ-loop2 card east state part₀ wide high j i₀ part i = wide - i
 
 abbrev Inv-loop : tie.InvT-loop
-Inv-loop card east state part₀ across up j₀ part j = Rows across (transfers card (readState card state) east) up part₀ part j
+Inv-loop card east state part₀ wide high j₀ part j = Rows wide (transfers card (readState card state) east) high part₀ part j
 
 abbrev μ-loop : tie.MeasureT-loop
-μ-loop card east state part₀ across up j₀ part j = up - j
+μ-loop card east state part₀ wide high j₀ part j = high - j
 
-across-requires : tie.Need-across-requires Inv-loop2 μ-loop2 Inv-loop μ-loop
-across-requires c κs = search needs
+wide-requires : tie.Need-wide-requires Inv-loop2 μ-loop2 Inv-loop μ-loop
+wide-requires c κs = search needs
 
-up-requires : tie.Need-up-requires Inv-loop2 μ-loop2 Inv-loop μ-loop
-up-requires c κs = search needs
+high-requires : tie.Need-high-requires Inv-loop2 μ-loop2 Inv-loop μ-loop
+high-requires c κs = search needs
 
 -- the part is as long as the loops count
-long : (c : tie.After-up Inv-loop2 μ-loop2 Inv-loop μ-loop) → length (c .before .before .args .part .now) ≡ c .up .result * c .before .across .result
-long c = c .before .before .pre .long ∙ sym (ap₂ _*_ (c .up .ensures) (c .before .across .ensures))
+long : (c : tie.After-high Inv-loop2 μ-loop2 Inv-loop μ-loop) → length (c .before .before .args .part .now) ≡ c .high .result * c .before .wide .result
+long c = c .before .before .pre .long ∙ sym (ap₂ _*_ (c .high .ensures) (c .before .wide .ensures))
 
 loop-holds : tie.Need-loop-holds Inv-loop2 μ-loop2 Inv-loop μ-loop
 loop-holds c = begin (le-of-eq (sym (long c)))
@@ -79,8 +79,8 @@ returns c =
     let d = c .before .before in
     done (c .before .loop .inv) (c .loop-test .left) (long d)
     ∙ ap₂ (λ (m n : ℕ). grid m n (transfers (d .before .before .args .card) (readState (d .before .before .args .card) (d .before .before .args .state .now)) (d .before .before .args .east)))
-    (d .before .across .ensures)
-    (d .up .ensures)
+    (d .before .wide .ensures)
+    (d .high .ensures)
 
 pub over-faces-spec : {M : Type 1} → statement M
 over-faces-spec =
@@ -90,8 +90,8 @@ over-faces-spec =
     μ-loop2
     Inv-loop
     μ-loop
-    across-requires
-    up-requires
+    wide-requires
+    high-requires
     loop-holds
     loop2-holds
     over-face-requires

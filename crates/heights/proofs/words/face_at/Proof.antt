@@ -8,16 +8,16 @@ use Rattle.heights.proofs.words.face_at.Tie as tie
 first-requires : tie.Need-first-requires
 first-requires c κs = c .pre .card
 
-across-requires : tie.Need-across-requires
-across-requires c κs = search needs
+wide-requires : tie.Need-wide-requires
+wide-requires c κs = search needs
 
 word-requires : tie.Need-word-requires
 word-requires c κs =
     let p = c .before .before .pre in
-    rw (c .before .first .ensures, c .across .ensures) (face-in _ _ (p .long) (p .face))
+    rw (c .before .first .ensures, c .wide .ensures) (face-in _ _ (p .long) (p .face))
 
 returns : tie.Need-returns
-returns c = word-is (c .word .result) (c .word .ok) (c .word .ensures ∙ rw (c .before .before .first .ensures, c .before .across .ensures) (face-read _ _ _ _ _))
+returns c = word-is (c .word .result) (c .word .ok) (c .word .ensures ∙ rw (c .before .before .first .ensures, c .before .wide .ensures) (face-read _ _ _ _ _))
 
 pub face-at-spec : {M : Type 1} → statement M
-face-at-spec = tie.close (tie.spec first-requires across-requires word-requires returns)
+face-at-spec = tie.close (tie.spec first-requires wide-requires word-requires returns)

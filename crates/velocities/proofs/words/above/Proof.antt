@@ -12,10 +12,10 @@ use Rattle.velocities.proofs.words.above.Statement.{statement}
 use Rattle.velocities.proofs.words.above.Tie as tie
 
 -- what the test says of the place itself
-tested : (c : tie.After-up) → let a = c .before .before .before .before .args in
-    (ltb (c .before .before .before .forth .result) (c .before .across .result) && ltb (c .before .before .forth2 .result) (c .up .result))
-    ≡ (ltb (forth (not (a .east)) (a .i)) (Ways.across (a .card) (a .east)) && ltb (forth (a .east) (a .j)) (Ways.up (a .card) (a .east)))
-tested c = rw (c .before .before .before .forth .ensures, c .before .before .forth2 .ensures, c .before .across .ensures, c .up .ensures)
+tested : (c : tie.After-high) → let a = c .before .before .before .before .args in
+    (ltb (c .before .before .before .forth .result) (c .before .wide .result) && ltb (c .before .before .forth2 .result) (c .high .result))
+    ≡ (ltb (forth (not (a .east)) (a .i)) (Ways.wide (a .card) (a .east)) && ltb (forth (a .east) (a .j)) (Ways.high (a .card) (a .east)))
+tested c = rw (c .before .before .before .forth .ensures, c .before .before .forth2 .ensures, c .before .wide .ensures, c .high .ensures)
 
 forth-requires : tie.Need-forth-requires
 forth-requires c κs = in-range _ (c .pre) .0
@@ -23,26 +23,26 @@ forth-requires c κs = in-range _ (c .pre) .0
 forth-requires-2 : tie.Need-forth-requires-2
 forth-requires-2 c κs = in-range _ (c .before .pre) .1
 
-across-requires : tie.Need-across-requires
-across-requires c κs = search needs
+wide-requires : tie.Need-wide-requires
+wide-requires c κs = search needs
 
-up-requires : tie.Need-up-requires
-up-requires c κs = search needs
+high-requires : tie.Need-high-requires
+high-requires c κs = search needs
 
 face-at-requires : tie.Need-face-at-requires
 face-at-requires c κs =
-    let up = c .before in
-    let p = up .before .before .before .before .pre in
-    record { card = p .card; long = p .long; face = above-in _ (up .before .across .ensures) (up .up .ensures) (c .if1 .taken) }
+    let high = c .before in
+    let p = high .before .before .before .before .pre in
+    record { card = p .card; long = p .long; face = above-in _ (high .before .wide .ensures) (high .high .ensures) (c .if1 .taken) }
 
 returns : tie.Need-returns
 returns c =
     let n = c .face-at in
-    let up = c .before .before in
-    let face = up .before .before .before .before .pre .face in
+    let high = c .before .before in
+    let face = high .before .before .before .before .pre .face in
     word-is (n .result) (n .ok)
     (n .ensures
-    ∙ rw (up .before .before .before .forth .ensures, up .before .before .forth2 .ensures) (sym (above-is _ _ face ∙ rw (sym (tested up) ∙ c .before .if1 .taken))))
+    ∙ rw (high .before .before .before .forth .ensures, high .before .before .forth2 .ensures) (sym (above-is _ _ face ∙ rw (sym (tested high) ∙ c .before .if1 .taken))))
 
 returns-2 : tie.Need-returns-2
 returns-2 c = sym (above-is _ _ (c .before .before .before .before .before .pre .face) ∙ rw (sym (tested (c .before)) ∙ c .if1 .left))
@@ -50,4 +50,4 @@ returns-2 c = sym (above-is _ _ (c .before .before .before .before .before .pre 
 pub above-spec : {M : Type 1} → statement M
 above-spec =
     tie.close
-    (tie.spec forth-requires forth-requires-2 across-requires up-requires face-at-requires returns returns-2)
+    (tie.spec forth-requires forth-requires-2 wide-requires high-requires face-at-requires returns returns-2)

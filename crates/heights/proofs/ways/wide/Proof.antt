@@ -1,8 +1,8 @@
 use native.Mathlib.Numerals.{add-one}
 use borrow.Author.Needs.{needs}
-use Rattle.heights.specs.Ways.{across}
-use Rattle.heights.proofs.ways.across.Statement.{statement}
-use Rattle.heights.proofs.ways.across.Tie as tie
+use Rattle.heights.specs.Ways.{wide}
+use Rattle.heights.proofs.ways.wide.Statement.{statement}
+use Rattle.heights.proofs.ways.wide.Tie as tie
 
 cast-columns : tie.Need-cast-columns
 cast-columns c = search needs
@@ -11,12 +11,12 @@ add-result : tie.Need-add-result
 add-result c = search needs
 
 returns : tie.Need-returns
-unfolding across
+unfolding wide
 returns c = rw (c .if1 .taken, add-one)
 
 returns-2 : tie.Need-returns-2
-unfolding across
+unfolding wide
 returns-2 c = rw (c .if1 .left)
 
-pub across-spec : {M : Type 1} → statement M
-across-spec = tie.close (tie.spec cast-columns add-result returns returns-2)
+pub wide-spec : {M : Type 1} → statement M
+wide-spec = tie.close (tie.spec cast-columns add-result returns returns-2)
