@@ -1,3 +1,3 @@
 pub mod Sites
 pub mod Tides
-pub mod Pointing
+pub mod Crossings

@@ -16,9 +16,9 @@ use Rattle.laws.specs.Signed.{word-is}
 use Rattle.laws.specs.Tests.{four-of, to-T}
 use Rattle.laws.specs.Facts.{Fits, sound-facts}
 use Rattle.laws.specs.Bounded as bounded
-use Rattle.heights.specs.Places.{HeightPlace, FaceIn, FacePlace}
+use Rattle.layout.specs.Places.{HeightPlace, FaceIn, FacePlace}
 use Rattle.heights.specs.Known.{SoundState, Limited}
-use Rattle.heights.specs.Ways.{wide, high, side, speeds, transfers}
+use Rattle.layout.specs.Ways.{wide, high, side, speeds, transfers}
 use Rattle.face.specs.Ranges.{Height, Speed, Time, Side}
 
 -- a word that a call returned is in its range where the number that it stands for is

@@ -15,9 +15,9 @@ use Rattle.laws.specs.States.{height-back, east-back, north-back}
 use Rattle.laws.specs.Behind.{behind-heights, east-alike, north-alike}
 use Rattle.laws.specs.Reading.{Holds}
 use Rattle.heights.specs.Tide.{tide, crossings, tideFits}
-use Rattle.heights.specs.Places.{FaceIn}
+use Rattle.layout.specs.Places.{FaceIn}
 use Rattle.heights.specs.Known.{Crossed}
-use Rattle.heights.specs.Ways.{wide, high, speeds, transfers}
+use Rattle.layout.specs.Ways.{wide, high, speeds, transfers}
 
 module _ {c : Card} {s t : List ℤ} (lists : Crossed c s t) where
   like-tide : drop (c .rows * c .columns) t ≡ drop (c .rows * c .columns) (writeState c (tide c (readState c s)))

@@ -11,9 +11,9 @@ use Rattle.rules.specs.Step.{transfer, limitKept}
 use Rattle.laws.specs.Sizes.{Within}
 use Rattle.laws.specs.Facts.{Sound}
 use Rattle.face.specs.Ranges.{InTransfer}
-use Rattle.heights.specs.Places.{FaceIn}
+use Rattle.layout.specs.Places.{FaceIn}
 use Rattle.heights.specs.Tide.{crossings}
-use Rattle.heights.specs.Ways.{wide, high}
+use Rattle.layout.specs.Ways.{wide, high}
 
 -- the state of a sound site, over some ground
 pub record SoundState (c : Card) (s : List ℤ) : Type 0 where

@@ -1,7 +1,4 @@
 // The first half of a step, the balance of water: the look at the step limit, what crosses each face, and the new heights.
-mod cells;
 pub mod look;
 pub mod tide;
 pub mod transfers;
-pub mod ways;
-pub mod words;

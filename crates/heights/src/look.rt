@@ -3,7 +3,7 @@ ghost use mathlib.Core.Path.{_≡_};
 ghost use Rattle.rules.specs.Site.{readState};
 ghost use Rattle.rules.specs.Step.{withinLimit, limitKept};
 ghost use Rattle.heights.specs.Known.{SoundState, SoundCell};
-use super::cells;
+use layout::cells;
 use rules::Card;
 
 // Whether a cell keeps the step limit.

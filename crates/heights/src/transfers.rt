@@ -7,9 +7,9 @@ ghost use Rattle.rules.specs.Site.{readState};
 ghost use Rattle.rules.specs.Step.{transfer};
 ghost use Rattle.heights.specs.Tide.{crossings};
 ghost use Rattle.heights.specs.Known.{InCrossing, LimitedFace, FacesRoom, CrossingsRoom, TideRoom};
-ghost use Rattle.heights.specs.Ways as Ways;
-use super::ways;
-use super::words;
+ghost use Rattle.layout.specs.Ways as Ways;
+use layout::ways;
+use layout::words;
 use rules::Card;
 
 // What crosses the face between K and L, where the step limit bounds it.

@@ -16,7 +16,7 @@ use Rattle.laws.specs.Facts.{Sound}
 use Rattle.heights.specs.Tide.{tide, crossings, tideFits}
 use Rattle.heights.specs.Known.{SoundState, Limited, TideRoom, Crossed}
 use Rattle.heights.proofs.Tides.{tide-heights}
-use Rattle.velocities.specs.Faces.{Flowing}
+use Rattle.around.specs.Faces.{Flowing}
 use Rattle.step.specs.Advance.{StepRoom, NextRoom, Advanced}
 
 module _ {c : Card} {g s t n : List ℤ} (room : StepRoom c g s t n) where

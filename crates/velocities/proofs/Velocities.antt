@@ -9,9 +9,9 @@ use Rattle.rules.specs.declared.Card.{Card}
 use Rattle.rules.specs.Site.{readGround, readState}
 use Rattle.rules.specs.Step.{newVelocity, newEast, newNorth}
 use Rattle.laws.specs.Lines.{walled-is}
-use Rattle.heights.specs.Ways.{wide, high, side, isWall, back}
-use Rattle.heights.specs.Places.{FaceIn}
-use Rattle.velocities.specs.Faces.{innerFace}
+use Rattle.layout.specs.Ways.{wide, high, side, isWall, back}
+use Rattle.layout.specs.Places.{FaceIn}
+use Rattle.around.specs.Faces.{innerFace}
 use Rattle.velocities.specs.Velocities.{newSpeeds}
 
 pub new-is : (c : Card) (g s : List ℤ) (east : Bool) {i j : ℕ} → FaceIn c east i j

@@ -1,7 +1,7 @@
 // The velocities of the next state, in the part of it that starts behind the heights: two passes, each left at the first velocity out of
 // range. Two divisions for each inner face; none on the walls.
-use super::faces;
-use heights::ways;
+use around::faces;
+use layout::ways;
 use rules::Card;
 ghost use mathlib.Core.Path.{_≡_};
 ghost use Prim.Native.Nat.{suc, _+_, _*_};
@@ -9,7 +9,7 @@ ghost use Rattle.rules.specs.Grid.{grid, allAt};
 ghost use Rattle.rules.specs.Site.{readGround, readState, speedFits};
 ghost use Rattle.rules.specs.Step.{newVelocity, newVelocitiesFit};
 ghost use Rattle.laws.specs.Tested.{Filled};
-ghost use Rattle.heights.specs.Ways as Ways;
+ghost use Rattle.layout.specs.Ways as Ways;
 ghost use Rattle.velocities.specs.Velocities.{OnFace, Room, newSpeeds, nextVelocities};
 
 // The new velocity of a face.

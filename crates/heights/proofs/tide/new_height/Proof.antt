@@ -9,9 +9,9 @@ use Rattle.rules.specs.Step.{eastTransfer, northTransfer, newHeight}
 use Rattle.laws.specs.Signed.{word-is, small-is, small-within}
 use Rattle.laws.specs.Sizes.{Within}
 use Rattle.face.specs.Ranges.{Height}
-use Rattle.heights.specs.declared.cells.Cell.{Cell}
-use Rattle.heights.specs.Cells.{cellAt}
-use Rattle.heights.specs.Ways.{wide, high, speeds, transfers}
+use Rattle.layout.specs.declared.cells.Cell.{Cell}
+use Rattle.layout.specs.Cells.{cellAt}
+use Rattle.layout.specs.Ways.{wide, high, speeds, transfers}
 use Rattle.heights.proofs.Sites.{facts, height-fits, height-within, crossed}
 use Rattle.heights.proofs.Tides.{crossing}
 use Rattle.heights.proofs.tide.new_height.Statement.{statement}

@@ -6,7 +6,7 @@ use lib.Seq.{length-take-le}
 use Rattle.laws.specs.Grids.{length-grid}
 use Rattle.laws.specs.Parts.{two-parts, length-part}
 use Rattle.heights.specs.Tide.{crossings}
-use Rattle.heights.specs.Ways.{wide, high, transfers}
+use Rattle.layout.specs.Ways.{wide, high, transfers}
 use Rattle.heights.proofs.transfers.both_ways.Statement.{statement}
 use Rattle.heights.proofs.transfers.both_ways.Tie as tie
 

@@ -10,8 +10,9 @@ use Rattle.rules.specs.Step.{transfer}
 use Rattle.laws.specs.Sizes.{Within}
 use Rattle.laws.specs.Signed.{word-is}
 use Rattle.face.specs.Ranges.{Side}
-use Rattle.heights.specs.Ways.{back, transfers}
-use Rattle.heights.proofs.Pointing.{Beside, beside, over-wall, over-inner}
+use Rattle.layout.specs.Ways.{back, transfers}
+use Rattle.layout.proofs.Pointing.{Beside, beside}
+use Rattle.heights.proofs.Crossings.{over-wall, over-inner}
 use Rattle.heights.proofs.Sites.{height-place, face-place, height-fits, speed-fits, height-word, within-word, time, side-fits, crossed}
 use Rattle.heights.proofs.transfers.over_face.Statement.{statement}
 use Rattle.heights.proofs.transfers.over_face.Tie as tie

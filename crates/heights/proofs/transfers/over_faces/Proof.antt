@@ -8,7 +8,7 @@ use Rattle.rules.specs.Grid.{grid}
 use Rattle.rules.specs.Site.{readState}
 use Rattle.laws.specs.Signed.{word-is}
 use Rattle.laws.specs.Passes.{Rows, Cells, begin, begin-row, place, more, more-rows, done}
-use Rattle.heights.specs.Ways.{transfers}
+use Rattle.layout.specs.Ways.{transfers}
 use Rattle.heights.proofs.transfers.over_faces.Statement.{statement}
 use Rattle.heights.proofs.transfers.over_faces.Tie as tie
 

@@ -16,7 +16,7 @@ use Rattle.laws.specs.Reading.{long-of}
 use Rattle.heights.specs.Tide.{tide}
 use Rattle.heights.proofs.Sites.{facts}
 use Rattle.velocities.specs.Velocities.{nextVelocities}
-use Rattle.velocities.proofs.Flows.{sound-of}
+use Rattle.around.proofs.Flows.{sound-of}
 use Rattle.step.proofs.advance.fill_next.Statement.{statement}
 use Rattle.step.proofs.advance.fill_next.Tie as tie
 

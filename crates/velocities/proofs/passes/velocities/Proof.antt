@@ -10,7 +10,7 @@ use Rattle.rules.specs.Step.{newVelocitiesFit}
 use Rattle.laws.specs.Grids.{length-grid}
 use Rattle.laws.specs.Parts.{two-parts, length-part}
 use Rattle.laws.specs.Tested.{first-left, both-filled}
-use Rattle.heights.specs.Ways.{wide, high}
+use Rattle.layout.specs.Ways.{wide, high}
 use Rattle.velocities.specs.Velocities.{newSpeeds, nextVelocities}
 use Rattle.velocities.proofs.passes.velocities.Statement.{statement}
 use Rattle.velocities.proofs.passes.velocities.Tie as tie
