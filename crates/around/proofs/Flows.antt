@@ -13,9 +13,9 @@ use Rattle.rules.specs.Site.{readGround, readState}
 use Rattle.rules.specs.Step.{newHeight}
 use Rattle.laws.specs.Places.{height-in}
 use Rattle.laws.specs.Reading.{long-of, height-read, east-read, north-read}
-use Rattle.heights.proofs.Sites.{facts}
-use Rattle.heights.specs.Known.{SoundState}
-use Rattle.heights.specs.Tide.{tide}
+use Rattle.transfers.proofs.Sites.{facts}
+use Rattle.transfers.specs.Known.{SoundState}
+use Rattle.transfers.specs.Tide.{tide}
 use Rattle.layout.specs.Ways.{wide, high, speeds, transfers}
 use Rattle.layout.specs.Places.{FaceIn, FacePlace}
 use Rattle.around.specs.Faces.{Flowing}

@@ -16,7 +16,7 @@ use Rattle.laws.specs.Walls.{behind-has}
 use Rattle.laws.specs.Bounded.{new-low}
 use Rattle.face.specs.Ranges.{Height, Ground, Speed, Transfer, FaceFits}
 use Rattle.layout.specs.Ways.{speeds, transfers}
-use Rattle.heights.proofs.Sites.{facts, depths, height-fits, speed-fits, crossed}
+use Rattle.transfers.proofs.Sites.{facts, depths, height-fits, speed-fits, crossed}
 use Rattle.layout.specs.Places.{FaceIn}
 use Rattle.around.specs.Around.{speedAbove, speedBelow, gatheredFace}
 use Rattle.around.specs.Faces.{Flowing, AtFace, innerFace}

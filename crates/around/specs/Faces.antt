@@ -11,7 +11,7 @@ use Rattle.rules.specs.Site.{Water, readState}
 use Rattle.rules.specs.Step.{limitKept, newHeightsFit, eastFace, northFace}
 use Rattle.laws.specs.Reading.{Holds}
 use Rattle.laws.specs.Facts.{Sound}
-use Rattle.heights.specs.Tide.{tide}
+use Rattle.transfers.specs.Tide.{tide}
 use Rattle.layout.specs.Ways.{forth}
 
 -- a sound site that keeps the step limit, with new heights in their range and the tide at hand

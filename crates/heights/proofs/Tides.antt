@@ -14,7 +14,7 @@ use Rattle.laws.specs.Grids.{allAt-same}
 use Rattle.laws.specs.States.{height-back, east-back, north-back}
 use Rattle.laws.specs.Behind.{behind-heights, east-alike, north-alike}
 use Rattle.laws.specs.Reading.{Holds}
-use Rattle.heights.specs.Tide.{tide, crossings, tideFits}
+use Rattle.transfers.specs.Tide.{tide, crossings, tideFits}
 use Rattle.layout.specs.Places.{FaceIn}
 use Rattle.heights.specs.Known.{Crossed}
 use Rattle.layout.specs.Ways.{wide, high, speeds, transfers}

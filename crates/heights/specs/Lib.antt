@@ -1,2 +1,1 @@
-pub mod Tide
 pub mod Known

@@ -2,7 +2,8 @@
 ghost use mathlib.Core.Path.{_≡_};
 ghost use Rattle.rules.specs.Site.{readState};
 ghost use Rattle.rules.specs.Step.{withinLimit, limitKept};
-ghost use Rattle.heights.specs.Known.{SoundState, SoundCell};
+ghost use Rattle.transfers.specs.Known.{SoundState};
+ghost use Rattle.heights.specs.Known.{SoundCell};
 use layout::cells;
 use rules::Card;
 

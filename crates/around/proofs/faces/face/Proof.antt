@@ -4,7 +4,7 @@ use native.Mathlib.Omega.{arith}
 use borrow.Author.Needs.{needs}
 use Rattle.laws.specs.Signed.{word-is}
 use Rattle.laws.specs.Places.{height-read}
-use Rattle.heights.proofs.Sites.{facts, face-place}
+use Rattle.transfers.proofs.Sites.{facts, face-place}
 use Rattle.around.specs.Around.{gatheredFace}
 use Rattle.around.proofs.Around.{Cell, near-in, far-in, cell-k, cell-l, gathered-is}
 use Rattle.around.proofs.Flows.{sound-of, ground-in, state-in, tide-in, ground-is, new-is, in-tide, crossed-is}

@@ -13,9 +13,9 @@ use Rattle.laws.specs.Signed.{small-is, small-within}
 use Rattle.face.specs.Ranges.{InLimit}
 use Rattle.layout.specs.declared.cells.Cell.{Cell}
 use Rattle.layout.specs.Cells.{cellAt}
-use Rattle.heights.specs.Known.{SoundState}
+use Rattle.transfers.specs.Known.{SoundState}
 use Rattle.layout.specs.Ways.{side, speeds}
-use Rattle.heights.proofs.Sites.{facts, speed-fits, time, side-fits}
+use Rattle.transfers.proofs.Sites.{facts, speed-fits, time, side-fits}
 use Rattle.heights.proofs.look.keeps_limit.Statement.{statement}
 use Rattle.heights.proofs.look.keeps_limit.Tie as tie
 

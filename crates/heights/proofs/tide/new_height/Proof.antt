@@ -12,7 +12,7 @@ use Rattle.face.specs.Ranges.{Height}
 use Rattle.layout.specs.declared.cells.Cell.{Cell}
 use Rattle.layout.specs.Cells.{cellAt}
 use Rattle.layout.specs.Ways.{wide, high, speeds, transfers}
-use Rattle.heights.proofs.Sites.{facts, height-fits, height-within, crossed}
+use Rattle.transfers.proofs.Sites.{facts, height-fits, height-within, crossed}
 use Rattle.heights.proofs.Tides.{crossing}
 use Rattle.heights.proofs.tide.new_height.Statement.{statement}
 use Rattle.heights.proofs.tide.new_height.Tie as tie

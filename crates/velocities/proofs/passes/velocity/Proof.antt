@@ -6,7 +6,7 @@ use mir.Facts.{toZ-ofZ}
 use Rattle.face.specs.Ranges.{FaceFits}
 use Rattle.layout.specs.Ways.{isWall}
 use Rattle.layout.proofs.Pointing.{beside}
-use Rattle.heights.proofs.Sites.{time, side-fits}
+use Rattle.transfers.proofs.Sites.{time, side-fits}
 use Rattle.around.specs.Faces.{AtFace}
 use Rattle.around.proofs.Around.{inner-at}
 use Rattle.around.proofs.Flows.{sound-of}

@@ -3,7 +3,7 @@ use Prim.Native.Nat.{_-_}
 use native.Mathlib.Omega.{arith}
 use borrow.Author.Needs.{needs}
 use Rattle.laws.specs.Gather.{RowsGathered, CellsGathered, rows-none, row-none, row-more, rows-more, rows-all}
-use Rattle.heights.proofs.Sites.{facts}
+use Rattle.transfers.proofs.Sites.{facts}
 use Rattle.velocities.specs.Shares.{shareFits}
 use Rattle.around.proofs.Around.{forth-back}
 use Rattle.around.proofs.Flows.{sound-of}

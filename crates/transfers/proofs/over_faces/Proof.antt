@@ -9,8 +9,8 @@ use Rattle.rules.specs.Site.{readState}
 use Rattle.laws.specs.Signed.{word-is}
 use Rattle.laws.specs.Passes.{Rows, Cells, begin, begin-row, place, more, more-rows, done}
 use Rattle.layout.specs.Ways.{transfers}
-use Rattle.heights.proofs.transfers.over_faces.Statement.{statement}
-use Rattle.heights.proofs.transfers.over_faces.Tie as tie
+use Rattle.transfers.proofs.over_faces.Statement.{statement}
+use Rattle.transfers.proofs.over_faces.Tie as tie
 
 abbrev Inv-loop2 : tie.InvT-loop2
 Inv-loop2 card east state part₀ wide high j i₀ part i = Cells wide (transfers card (readState card state) east) high j part₀ part i

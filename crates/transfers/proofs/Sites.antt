@@ -17,7 +17,7 @@ use Rattle.laws.specs.Tests.{four-of, to-T}
 use Rattle.laws.specs.Facts.{Fits, sound-facts}
 use Rattle.laws.specs.Bounded as bounded
 use Rattle.layout.specs.Places.{HeightPlace, FaceIn, FacePlace}
-use Rattle.heights.specs.Known.{SoundState, Limited}
+use Rattle.transfers.specs.Known.{SoundState, Limited}
 use Rattle.layout.specs.Ways.{wide, high, side, speeds, transfers}
 use Rattle.face.specs.Ranges.{Height, Speed, Time, Side}
 

@@ -3,8 +3,8 @@ use borrow.Author.Needs.{needs}
 use mir.Facts.{toZ-ofZ}
 use Rattle.rules.specs.Step.{transfer}
 use Rattle.laws.specs.Signed.{narrow-fits, narrow-is}
-use Rattle.heights.proofs.transfers.crossing.Statement.{statement}
-use Rattle.heights.proofs.transfers.crossing.Tie as tie
+use Rattle.transfers.proofs.crossing.Statement.{statement}
+use Rattle.transfers.proofs.crossing.Tie as tie
 
 transfer-requires : tie.Need-transfer-requires
 transfer-requires c κs = search needs

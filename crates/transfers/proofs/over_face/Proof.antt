@@ -12,10 +12,10 @@ use Rattle.laws.specs.Signed.{word-is}
 use Rattle.face.specs.Ranges.{Side}
 use Rattle.layout.specs.Ways.{back, transfers}
 use Rattle.layout.proofs.Pointing.{Beside, beside}
-use Rattle.heights.proofs.Crossings.{over-wall, over-inner}
-use Rattle.heights.proofs.Sites.{height-place, face-place, height-fits, speed-fits, height-word, within-word, time, side-fits, crossed}
-use Rattle.heights.proofs.transfers.over_face.Statement.{statement}
-use Rattle.heights.proofs.transfers.over_face.Tie as tie
+use Rattle.transfers.proofs.Crossings.{over-wall, over-inner}
+use Rattle.transfers.proofs.Sites.{height-place, face-place, height-fits, speed-fits, height-word, within-word, time, side-fits, crossed}
+use Rattle.transfers.proofs.over_face.Statement.{statement}
+use Rattle.transfers.proofs.over_face.Tie as tie
 
 is-wall-requires : tie.Need-is-wall-requires
 is-wall-requires c κs = search needs

@@ -5,10 +5,10 @@ use borrow.Author.Needs.{needs}
 use lib.Seq.{length-take-le}
 use Rattle.laws.specs.Grids.{length-grid}
 use Rattle.laws.specs.Parts.{two-parts, length-part}
-use Rattle.heights.specs.Tide.{crossings}
+use Rattle.transfers.specs.Tide.{crossings}
 use Rattle.layout.specs.Ways.{wide, high, transfers}
-use Rattle.heights.proofs.transfers.both_ways.Statement.{statement}
-use Rattle.heights.proofs.transfers.both_ways.Tie as tie
+use Rattle.transfers.proofs.both_ways.Statement.{statement}
+use Rattle.transfers.proofs.both_ways.Tie as tie
 
 cast-columns : tie.Need-cast-columns
 cast-columns c = search needs

@@ -4,8 +4,8 @@ use native.Mathlib.Omega.{arith}
 use borrow.Author.Needs.{needs}
 use Rattle.laws.specs.Places.{room}
 use Rattle.laws.specs.Parts.{back-length, back-drop}
-use Rattle.heights.proofs.transfers.transfers.Statement.{statement}
-use Rattle.heights.proofs.transfers.transfers.Tie as tie
+use Rattle.transfers.proofs.transfers.Statement.{statement}
+use Rattle.transfers.proofs.transfers.Tie as tie
 
 cast-columns : tie.Need-cast-columns
 cast-columns c = search needs
