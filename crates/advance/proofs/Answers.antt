@@ -13,10 +13,11 @@ use Rattle.rules.specs.Step.{limitKept, newHeightsFit, sharesFit, newVelocity, 
 use Rattle.laws.specs.Reading.{Holds}
 use Rattle.laws.specs.Tested.{Filled}
 use Rattle.laws.specs.Facts.{Sound}
-use Rattle.heights.specs.Tide.{tide, crossings, tideFits}
-use Rattle.heights.specs.Known.{SoundState, Limited, TideRoom, Crossed}
+use Rattle.transfers.specs.Tide.{tide, crossings, tideFits}
+use Rattle.transfers.specs.Known.{SoundState, Limited, TideRoom}
+use Rattle.heights.specs.Known.{Crossed}
 use Rattle.heights.proofs.Tides.{tide-heights}
-use Rattle.velocities.specs.Faces.{Flowing}
+use Rattle.around.specs.Faces.{Flowing}
 use Rattle.advance.specs.Advance.{StepRoom, NextRoom, Advanced}
 
 module _ {c : Card} {g s t n : List ℤ} (room : StepRoom c g s t n) where

@@ -8,7 +8,7 @@ use Rattle.rules.specs.declared.Card.{Card}
 use Rattle.rules.specs.Site.{stateLength}
 use Rattle.rules.specs.Step.{stepNumber, nextState}
 use Rattle.laws.specs.Facts.{Sound}
-use Rattle.velocities.specs.Faces.{Flowing}
+use Rattle.around.specs.Faces.{Flowing}
 
 -- a tide and a next state, both in the state's layout
 pub record StepRoom (c : Card) (g s t n : List ℤ) : Type 0 where

@@ -39,7 +39,7 @@ pub fn advance(card: Card, ground: &[i32], state: &[i32], tide: &mut [i32], next
     if !heights::look::limit_kept(card, state) {
         return 4;
     }
-    heights::transfers::transfers(card, state, tide);
+    transfers::transfers(card, state, tide);
     heights::tide::heights(card, state, tide);
     if !heights::tide::heights_fit(card, tide) {
         return 5;

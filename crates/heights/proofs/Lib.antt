@@ -1,3 +1,1 @@
-pub mod Sites
 pub mod Tides
-pub mod Pointing

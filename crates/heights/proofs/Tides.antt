@@ -14,10 +14,10 @@ use Rattle.laws.specs.Grids.{allAt-same}
 use Rattle.laws.specs.States.{height-back, east-back, north-back}
 use Rattle.laws.specs.Behind.{behind-heights, east-alike, north-alike}
 use Rattle.laws.specs.Reading.{Holds}
-use Rattle.heights.specs.Tide.{tide, crossings, tideFits}
-use Rattle.heights.specs.Places.{FaceIn}
+use Rattle.transfers.specs.Tide.{tide, crossings, tideFits}
+use Rattle.layout.specs.Places.{FaceIn}
 use Rattle.heights.specs.Known.{Crossed}
-use Rattle.heights.specs.Ways.{across, up, speeds, transfers}
+use Rattle.layout.specs.Ways.{wide, high, speeds, transfers}
 
 module _ {c : Card} {s t : List ℤ} (lists : Crossed c s t) where
   like-tide : drop (c .rows * c .columns) t ≡ drop (c .rows * c .columns) (writeState c (tide c (readState c s)))
@@ -25,7 +25,7 @@ module _ {c : Card} {s t : List ℤ} (lists : Crossed c s t) where
   like-tide = lists .crossed ∙ sym (behind-heights c (tide c (readState c s)))
 
   pub crossing : (east : Bool) (i j : ℕ) → FaceIn c east i j → speeds (readState c t) east i j ≡ transfers c (readState c s) east i j
-  unfolding tide across up speeds transfers
+  unfolding tide wide high speeds transfers
   crossing true i j f =
       let w = tide c (readState c s) in
       east-alike c t (writeState c w) like-tide i j ∙ east-back c w i j (omega (arith, f .column)) (f .row)

@@ -1,60 +1,21 @@
 -- What the functions of this half of a step may take as known: what their callers have checked.
 use mathlib.Core.Path.{_≡_}
-use mathlib.Core.Bool.{Bool, true}
 use mathlib.Core.List.{List}
-use Prim.Native.Nat.{ℕ, suc, _+_, _*_, _<_}
+use Prim.Native.Nat.{ℕ, _*_, _<_}
 use lib.IntN.{ℤ}
 use lib.ListN.{length, drop}
 use Rattle.rules.specs.declared.Card.{Card}
 use Rattle.rules.specs.Site.{readState, stateLength}
-use Rattle.rules.specs.Step.{transfer, limitKept}
-use Rattle.laws.specs.Sizes.{Within}
-use Rattle.laws.specs.Facts.{Sound}
-use Rattle.face.specs.Ranges.{InTransfer}
-use Rattle.heights.specs.Places.{FaceIn}
-use Rattle.heights.specs.Tide.{crossings}
-use Rattle.heights.specs.Ways.{across, up}
+use Rattle.transfers.specs.Known.{SoundState, Limited}
+use Rattle.transfers.specs.Tide.{crossings}
 
--- the state of a sound site, over some ground
-pub record SoundState (c : Card) (s : List ℤ) : Type 0 where
-  pub ground : List ℤ
-  pub site : Sound c ground s
-
--- and each cell of which keeps the step limit
-pub record Limited (c : Card) (s : List ℤ) : Type 0 where
-  pub sound : SoundState c s
-  pub limit : limitKept c (readState c s) ≡ true
-
--- a cell of such a state
+-- a cell of the state of a sound site
 pub record SoundCell (c : Card) (s : List ℤ) (i j : ℕ) : Type 0 where
   pub sound : SoundState c s
   pub column : i < c .columns
   pub row : j < c .rows
 
--- a face of such a state
-pub record LimitedFace (c : Card) (s : List ℤ) (east : Bool) (i j : ℕ) : Type 0 where
-  pub limited : Limited c s
-  pub face : FaceIn c east i j
-
--- the numbers of a face, and that what crosses it is at most a height
-pub record InCrossing (hK hL u : ℤ) (dt d : ℕ) : Type 0 where
-  pub ranges : InTransfer hK hL u dt d
-  pub size : Within 50000000 (transfer dt d hK hL u)
-
--- room for what crosses the faces of one way, and for both
-pub record FacesRoom (c : Card) (s : List ℤ) (east : Bool) (part : List ℤ) : Type 0 where
-  pub limited : Limited c s
-  pub long : length part ≡ up c east * across c east
-
-pub record CrossingsRoom (c : Card) (s part : List ℤ) : Type 0 where
-  pub limited : Limited c s
-  pub long : length part ≡ c .rows * suc (c .columns) + suc (c .rows) * c .columns
-
--- a list in the state's layout, and one that holds what crosses the faces behind its heights
-pub record TideRoom (c : Card) (s t : List ℤ) : Type 0 where
-  pub limited : Limited c s
-  pub long : length t ≡ stateLength c
-
+-- a list in the state's layout that holds what crosses the faces behind its heights
 pub record Crossed (c : Card) (s t : List ℤ) : Type 0 where
   pub limited : Limited c s
   pub long : length t ≡ stateLength c

@@ -1,7 +1,3 @@
-// The first half of a step, the balance of water: the look at the step limit, what crosses each face, and the new heights.
-mod cells;
+// The first half of a step, the balance of water: the look at the step limit, and the new heights from what crossed the faces.
 pub mod look;
 pub mod tide;
-pub mod transfers;
-pub mod ways;
-pub mod words;

@@ -2,8 +2,9 @@
 ghost use mathlib.Core.Path.{_≡_};
 ghost use Rattle.rules.specs.Site.{readState};
 ghost use Rattle.rules.specs.Step.{withinLimit, limitKept};
-ghost use Rattle.heights.specs.Known.{SoundState, SoundCell};
-use super::cells;
+ghost use Rattle.transfers.specs.Known.{SoundState};
+ghost use Rattle.heights.specs.Known.{SoundCell};
+use layout::cells;
 use rules::Card;
 
 // Whether a cell keeps the step limit.

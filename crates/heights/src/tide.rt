@@ -5,11 +5,11 @@ ghost use lib.Signed.{leZ};
 ghost use Rattle.rules.specs.Site.{readState};
 ghost use Rattle.laws.specs.Reading.{Holds};
 ghost use Rattle.rules.specs.Step.{newHeight};
-ghost use Rattle.heights.specs.Tide as Tide;
-ghost use Rattle.heights.specs.Places.{HeightPlace};
+ghost use Rattle.transfers.specs.Tide as Tide;
+ghost use Rattle.layout.specs.Places.{HeightPlace};
 ghost use Rattle.heights.specs.Known.{Crossed, CrossedCell, InLayout};
-use super::cells;
-use super::words;
+use layout::cells;
+use layout::words;
 use rules::Card;
 
 // A cell's new height.

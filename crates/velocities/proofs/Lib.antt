@@ -1,7 +1,2 @@
-pub mod Abreast
-pub mod Around
-pub mod Flows
-pub mod Places
-pub mod Ranges
 pub mod Speeds
 pub mod Velocities

@@ -1,4 +1,2 @@
-pub mod Around
-pub mod Faces
 pub mod Shares
 pub mod Velocities

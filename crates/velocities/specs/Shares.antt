@@ -7,7 +7,7 @@ use lib.Signed.{leZ}
 use Rattle.rules.specs.declared.Card.{Card}
 use Rattle.rules.specs.Site.{readGround, readState}
 use Rattle.rules.specs.Step.{ownShare}
-use Rattle.velocities.specs.Faces.{innerFace}
+use Rattle.around.specs.Faces.{innerFace}
 
 abbrev pub shareFits : Card → (ground state : List ℤ) → Bool → ℕ → ℕ → Bool
 shareFits c g s east i j = leZ (pos 0) (ownShare (innerFace c (readGround c g) (readState c s) east i j))

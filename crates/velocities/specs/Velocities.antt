@@ -9,8 +9,8 @@ use Rattle.rules.specs.declared.Card.{Card}
 use Rattle.rules.specs.Grid.{Field, grid}
 use Rattle.rules.specs.Site.{readGround, readState}
 use Rattle.rules.specs.Step.{newVelocity, newEast, newNorth}
-use Rattle.heights.specs.Places.{FaceIn}
-use Rattle.velocities.specs.Faces.{Flowing}
+use Rattle.layout.specs.Places.{FaceIn}
+use Rattle.around.specs.Faces.{Flowing}
 
 -- a face (i, j): an inner one or a wall
 pub record OnFace (c : Card) (g s t : List ℤ) (east : Bool) (i j : ℕ) : Type 0 where

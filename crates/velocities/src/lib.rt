@@ -1,5 +1,3 @@
-// The second half of a step, the balance of momentum: what stands around each inner face, its own share, and the new velocities.
-mod faces;
+// The second half of a step, the balance of momentum: the own share of each inner face, and the new velocities.
 pub mod passes;
 pub mod shares;
-mod words;

@@ -1,7 +1,7 @@
 // The velocities of the next state, in the part of it that starts behind the heights: two passes, each left at the first velocity out of
 // range. Two divisions for each inner face; none on the walls.
-use super::faces;
-use heights::ways;
+use around::faces;
+use layout::ways;
 use rules::Card;
 ghost use mathlib.Core.Path.{_≡_};
 ghost use Prim.Native.Nat.{suc, _+_, _*_};
@@ -9,7 +9,7 @@ ghost use Rattle.rules.specs.Grid.{grid, allAt};
 ghost use Rattle.rules.specs.Site.{readGround, readState, speedFits};
 ghost use Rattle.rules.specs.Step.{newVelocity, newVelocitiesFit};
 ghost use Rattle.laws.specs.Tested.{Filled};
-ghost use Rattle.heights.specs.Ways as Ways;
+ghost use Rattle.layout.specs.Ways as Ways;
 ghost use Rattle.velocities.specs.Velocities.{OnFace, Room, newSpeeds, nextVelocities};
 
 // The new velocity of a face.
@@ -46,18 +46,18 @@ fn pass(
     tide: &[i32],
     part: &mut [i32],
 ) -> bool
-    requires { ⌜ Room card (now ground) (now state) (now tide) (Ways.up card east * Ways.across card east) (now part) ⌝ }
-    ensures { λ r. ⌜ Filled (allAt (Ways.across card east) (Ways.up card east) (λ i j. speedFits (newSpeeds card (now (ground .entry)) (now (state .entry)) east i j))) (grid (Ways.across card east) (Ways.up card east) (newSpeeds card (now (ground .entry)) (now (state .entry)) east)) r (now (part .exit)) ⌝ }
+    requires { ⌜ Room card (now ground) (now state) (now tide) (Ways.high card east * Ways.wide card east) (now part) ⌝ }
+    ensures { λ r. ⌜ Filled (allAt (Ways.wide card east) (Ways.high card east) (λ i j. speedFits (newSpeeds card (now (ground .entry)) (now (state .entry)) east i j))) (grid (Ways.wide card east) (Ways.high card east) (newSpeeds card (now (ground .entry)) (now (state .entry)) east)) r (now (part .exit)) ⌝ }
 {
-    let across = ways::across(card, east);
-    let up = ways::up(card, east);
-    for j in 0..up {
-        for i in 0..across {
+    let wide = ways::wide(card, east);
+    let high = ways::high(card, east);
+    for j in 0..high {
+        for i in 0..wide {
             let u = velocity(card, east, ground, state, tide, i, j);
             if !velocity::speed_fits(u) {
                 return false;
             }
-            lists::put(part, across, i, j, u as i32);
+            lists::put(part, wide, i, j, u as i32);
         }
     }
     true

@@ -1,15 +1,15 @@
 // Refusal 6: whether no own share is negative. A look at the eastward inner faces and one at the northward ones; neither is left early, so that
 // several faces are looked at at once.
-use super::faces;
-use heights::ways;
+use around::faces;
+use layout::ways;
 use rules::Card;
 ghost use mathlib.Core.Path.{_≡_};
 ghost use mathlib.Core.Bool.{not};
 ghost use Rattle.rules.specs.Grid.{allAt};
 ghost use Rattle.rules.specs.Site.{readGround, readState};
 ghost use Rattle.rules.specs.Step.{sharesFit};
-ghost use Rattle.heights.specs.Ways as Ways;
-ghost use Rattle.velocities.specs.Faces.{Flowing, AtFace};
+ghost use Rattle.layout.specs.Ways as Ways;
+ghost use Rattle.around.specs.Faces.{Flowing, AtFace};
 ghost use Rattle.velocities.specs.Shares.{shareFits};
 
 // Whether the own share of the inner face of which (i, j) is cell K is 0 or more.

@@ -13,10 +13,10 @@ use Rattle.laws.specs.Places.{Room, room}
 use Rattle.laws.specs.Parts.{two-parts, length-part, back-length}
 use Rattle.laws.specs.Behind.{front-heights}
 use Rattle.laws.specs.Reading.{long-of}
-use Rattle.heights.specs.Tide.{tide}
-use Rattle.heights.proofs.Sites.{facts}
+use Rattle.transfers.specs.Tide.{tide}
+use Rattle.transfers.proofs.Sites.{facts}
 use Rattle.velocities.specs.Velocities.{nextVelocities}
-use Rattle.velocities.proofs.Flows.{sound-of}
+use Rattle.around.proofs.Flows.{sound-of}
 use Rattle.advance.proofs.fill_next.Statement.{statement}
 use Rattle.advance.proofs.fill_next.Tie as tie
 

@@ -11,11 +11,11 @@ use Rattle.rules.specs.Site.{readState}
 use Rattle.rules.specs.Step.{withinLimit}
 use Rattle.laws.specs.Signed.{small-is, small-within}
 use Rattle.face.specs.Ranges.{InLimit}
-use Rattle.heights.specs.declared.cells.Cell.{Cell}
-use Rattle.heights.specs.Cells.{cellAt}
-use Rattle.heights.specs.Known.{SoundState}
-use Rattle.heights.specs.Ways.{side, speeds}
-use Rattle.heights.proofs.Sites.{facts, speed-fits, time, side-fits}
+use Rattle.layout.specs.declared.cells.Cell.{Cell}
+use Rattle.layout.specs.Cells.{cellAt}
+use Rattle.transfers.specs.Known.{SoundState}
+use Rattle.layout.specs.Ways.{side, speeds}
+use Rattle.transfers.proofs.Sites.{facts, speed-fits, time, side-fits}
 use Rattle.heights.proofs.look.keeps_limit.Statement.{statement}
 use Rattle.heights.proofs.look.keeps_limit.Tie as tie
 

@@ -7,7 +7,7 @@ use Rattle.rules.specs.Step.{newHeight}
 use Rattle.laws.specs.Signed.{word-is}
 use Rattle.laws.specs.Passes.{Rows, Cells, begin, begin-row, place, more, more-rows, done-front}
 use Rattle.laws.specs.Places.{room}
-use Rattle.heights.specs.Tide.{tide, crossings}
+use Rattle.transfers.specs.Tide.{tide, crossings}
 use Rattle.heights.proofs.tide.heights.Statement.{statement}
 use Rattle.heights.proofs.tide.heights.Tie as tie
 

@@ -8,7 +8,7 @@ use lib.Signed.{leZ}
 use Rattle.rules.specs.declared.Card.{Card}
 use Rattle.rules.specs.Site.{readState}
 use Rattle.laws.specs.Gather.{RowsGathered, CellsGathered, rows-none, row-none, row-more, rows-more, rows-all}
-use Rattle.heights.specs.Tide.{tideFits}
+use Rattle.transfers.specs.Tide.{tideFits}
 use Rattle.heights.proofs.tide.heights_fit.Statement.{statement}
 use Rattle.heights.proofs.tide.heights_fit.Tie as tie
 

@@ -9,10 +9,10 @@ use Rattle.rules.specs.Step.{eastTransfer, northTransfer, newHeight}
 use Rattle.laws.specs.Signed.{word-is, small-is, small-within}
 use Rattle.laws.specs.Sizes.{Within}
 use Rattle.face.specs.Ranges.{Height}
-use Rattle.heights.specs.declared.cells.Cell.{Cell}
-use Rattle.heights.specs.Cells.{cellAt}
-use Rattle.heights.specs.Ways.{across, up, speeds, transfers}
-use Rattle.heights.proofs.Sites.{facts, height-fits, height-within, crossed}
+use Rattle.layout.specs.declared.cells.Cell.{Cell}
+use Rattle.layout.specs.Cells.{cellAt}
+use Rattle.layout.specs.Ways.{wide, high, speeds, transfers}
+use Rattle.transfers.proofs.Sites.{facts, height-fits, height-within, crossed}
 use Rattle.heights.proofs.Tides.{crossing}
 use Rattle.heights.proofs.tide.new_height.Statement.{statement}
 use Rattle.heights.proofs.tide.new_height.Tie as tie
@@ -44,27 +44,27 @@ module _ (c : tie.After-struct-told5) where
       small-is (cell .height) (ap (λ (x : Cell). x .height) is) (height-within (p .lists .limited .sound) _ _ (p .column) (p .row)) tt
 
   west : cell .west ≡ eastTransfer (start .args .card) w (start .args .i) (start .args .j)
-  unfolding cellAt across up speeds transfers
+  unfolding cellAt wide high speeds transfers
   west = let p = start .pre in ap (λ (x : Cell). x .west) is ∙ crossing (p .lists) true _ _ (record { column = omega (arith, p .column); row = p .row })
 
   east : cell .east ≡ eastTransfer (start .args .card) w (suc (start .args .i)) (start .args .j)
-  unfolding cellAt across up speeds transfers
+  unfolding cellAt wide high speeds transfers
   east = let p = start .pre in ap (λ (x : Cell). x .east) is ∙ crossing (p .lists) true _ _ (record { column = omega (arith, p .column); row = p .row })
 
   south : cell .south ≡ northTransfer (start .args .card) w (start .args .i) (start .args .j)
-  unfolding cellAt across up speeds transfers
+  unfolding cellAt wide high speeds transfers
   south = let p = start .pre in ap (λ (x : Cell). x .south) is ∙ crossing (p .lists) false _ _ (record { column = p .column; row = omega (arith, p .row) })
 
   north : cell .north ≡ northTransfer (start .args .card) w (start .args .i) (suc (start .args .j))
-  unfolding cellAt across up speeds transfers
+  unfolding cellAt wide high speeds transfers
   north = let p = start .pre in ap (λ (x : Cell). x .north) is ∙ crossing (p .lists) false _ _ (record { column = p .column; row = omega (arith, p .row) })
 
   over-east : (i : ℕ) → i ≤ suc (start .args .i) → Within 50000000 (eastTransfer (start .args .card) w i (start .args .j))
-  unfolding across up transfers
+  unfolding wide high transfers
   over-east i h = let p = start .pre in crossed (p .lists .limited) true i _ (record { column = omega (arith, p .column); row = p .row })
 
   over-north : (j : ℕ) → j ≤ suc (start .args .j) → Within 50000000 (northTransfer (start .args .card) w (start .args .i) j)
-  unfolding across up transfers
+  unfolding wide high transfers
   over-north j h = let p = start .pre in crossed (p .lists .limited) false _ j (record { column = p .column; row = omega (arith, p .row) })
 
 new-height-requires : tie.Need-new-height-requires

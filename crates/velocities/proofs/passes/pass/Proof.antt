@@ -14,37 +14,37 @@ use Rattle.velocities.proofs.passes.pass.Statement.{statement}
 use Rattle.velocities.proofs.passes.pass.Tie as tie
 
 abbrev Inv-loop2 : tie.InvT-loop2
-Inv-loop2 card east ground state tide part₀ across up j i₀ part i = CellsTested across (newSpeeds card ground state east) speedFits up j part₀ part i
+Inv-loop2 card east ground state tide part₀ wide high j i₀ part i = CellsTested wide (newSpeeds card ground state east) speedFits high j part₀ part i
 
 abbrev μ-loop2 : tie.MeasureT-loop2
-μ-loop2 card east ground state tide part₀ across up j i₀ part i = across - i
+μ-loop2 card east ground state tide part₀ wide high j i₀ part i = wide - i
 
 abbrev Inv-loop : tie.InvT-loop
-Inv-loop card east ground state tide part₀ across up j₀ part j = RowsTested across (newSpeeds card ground state east) speedFits up part₀ part j
+Inv-loop card east ground state tide part₀ wide high j₀ part j = RowsTested wide (newSpeeds card ground state east) speedFits high part₀ part j
 
 abbrev μ-loop : tie.MeasureT-loop
-μ-loop card east ground state tide part₀ across up j₀ part j = up - j
+μ-loop card east ground state tide part₀ wide high j₀ part j = high - j
 
-across-requires : tie.Need-across-requires Inv-loop2 μ-loop2 Inv-loop μ-loop
-across-requires c κs = search needs
+wide-requires : tie.Need-wide-requires Inv-loop2 μ-loop2 Inv-loop μ-loop
+wide-requires c κs = search needs
 
-up-requires : tie.Need-up-requires Inv-loop2 μ-loop2 Inv-loop μ-loop
-up-requires c κs = search needs
+high-requires : tie.Need-high-requires Inv-loop2 μ-loop2 Inv-loop μ-loop
+high-requires c κs = search needs
 
 loop-holds : tie.Need-loop-holds Inv-loop2 μ-loop2 Inv-loop μ-loop
-loop-holds c = begin (rw (c .up .ensures, c .before .across .ensures, c .before .before .pre .long) (le-refl _))
+loop-holds c = begin (rw (c .high .ensures, c .before .wide .ensures, c .before .before .pre .long) (le-refl _))
 
 loop2-holds : tie.Need-loop2-holds Inv-loop2 μ-loop2 Inv-loop μ-loop
 loop2-holds c = begin-row (c .before .loop .inv)
 
 velocity-requires : tie.Need-velocity-requires Inv-loop2 μ-loop2 Inv-loop μ-loop
 velocity-requires c κs =
-    let here : tie.After-up Inv-loop2 μ-loop2 Inv-loop μ-loop = c .before .before .before .before in
+    let here : tie.After-high Inv-loop2 μ-loop2 Inv-loop μ-loop = c .before .before .before .before in
     record {
       flowing = here .before .before .pre .flowing;
       face = record {
-        column = rw (here .before .across .ensures) at (c .loop2-test .taken);
-        row = rw (here .up .ensures) at (c .before .before .loop-test .taken);
+        column = rw (here .before .wide .ensures) at (c .loop2-test .taken);
+        row = rw (here .high .ensures) at (c .before .before .loop-test .taken);
       };
     }
 
@@ -60,8 +60,8 @@ returns : tie.Need-returns Inv-loop2 μ-loop2 Inv-loop μ-loop
 returns c =
     let v = c .before .before .velocity in
     let d : tie.In-loop2 Inv-loop2 μ-loop2 Inv-loop μ-loop = c .before .before .before in
-    let here : tie.After-up Inv-loop2 μ-loop2 Inv-loop μ-loop = d .before .before .before .before in
-    rw (← here .before .across .ensures, ← here .up .ensures)
+    let here : tie.After-high Inv-loop2 μ-loop2 Inv-loop μ-loop = d .before .before .before .before in
+    rw (← here .before .wide .ensures, ← here .high .ensures)
     (left (d .before .loop2 .inv) (d .before .before .loop-test .taken) (d .loop2-test .taken)
     (sym (speed-says (v .result) (v .ok) (v .ensures) (c .before .speed-fits .ensures)) ∙ not-true _ (c .if1 .taken)))
 
@@ -105,9 +105,9 @@ same-length-2 c = c .before .loop .inv .filled .same
 
 returns-2 : tie.Need-returns-2 Inv-loop2 μ-loop2 Inv-loop μ-loop
 returns-2 c =
-    let here : tie.After-up Inv-loop2 μ-loop2 Inv-loop μ-loop = c .before .before in
-    rw (← here .before .across .ensures, ← here .up .ensures)
-    (done (c .before .loop .inv) (c .loop-test .left) (here .before .before .pre .long ∙ rw (here .before .across .ensures, here .up .ensures)))
+    let here : tie.After-high Inv-loop2 μ-loop2 Inv-loop μ-loop = c .before .before in
+    rw (← here .before .wide .ensures, ← here .high .ensures)
+    (done (c .before .loop .inv) (c .loop-test .left) (here .before .before .pre .long ∙ rw (here .before .wide .ensures, here .high .ensures)))
 
 pub pass-spec : {M : Type 1} → statement M
 pass-spec =
@@ -117,8 +117,8 @@ pass-spec =
     μ-loop2
     Inv-loop
     μ-loop
-    across-requires
-    up-requires
+    wide-requires
+    high-requires
     loop-holds
     loop2-holds
     velocity-requires

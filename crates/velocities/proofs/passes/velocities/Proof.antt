@@ -10,7 +10,7 @@ use Rattle.rules.specs.Step.{newVelocitiesFit}
 use Rattle.laws.specs.Grids.{length-grid}
 use Rattle.laws.specs.Parts.{two-parts, length-part}
 use Rattle.laws.specs.Tested.{first-left, both-filled}
-use Rattle.heights.specs.Ways.{across, up}
+use Rattle.layout.specs.Ways.{wide, high}
 use Rattle.velocities.specs.Velocities.{newSpeeds, nextVelocities}
 use Rattle.velocities.proofs.passes.velocities.Statement.{statement}
 use Rattle.velocities.proofs.passes.velocities.Tie as tie
@@ -44,7 +44,7 @@ slice-aggregate-pass : tie.Need-slice-aggregate-pass
 slice-aggregate-pass c = sym (length-take-le _ _ (omega arith))
 
 pass-requires : tie.Need-pass-requires
-unfolding across up
+unfolding wide high
 pass-requires c κs =
     let start = c .before .before .before in
     let card = start .args .card in
@@ -55,7 +55,7 @@ same-length : tie.Need-same-length
 same-length c = search needs
 
 returns : tie.Need-returns
-unfolding newVelocitiesFit newSpeeds across up
+unfolding newVelocitiesFit newSpeeds wide high
 returns c = first-left _ (c .before .before .pass .ensures) (not-true _ (c .if1 .taken))
 
 mul-pass : tie.Need-mul-pass
@@ -71,14 +71,14 @@ part-pass-end : tie.Need-part-pass-end
 part-pass-end c = search needs
 
 pass-requires-2 : tie.Need-pass-requires-2
-unfolding across up
+unfolding wide high
 pass-requires-2 c κs = record { flowing = start (eastward (c .before)) .pre .flowing; long = search needs }
 
 same-length-2 : tie.Need-same-length-2
 same-length-2 c = search needs
 
 returns-2 : tie.Need-returns-2
-unfolding newVelocitiesFit nextVelocities newSpeeds across up
+unfolding newVelocitiesFit nextVelocities newSpeeds wide high
 returns-2 c =
     let d = passed (c .before) in
     let card = start (eastward d) .args .card in

@@ -4,13 +4,13 @@ use mathlib.Core.Bool.{false}
 use borrow.Author.Needs.{needs}
 use mir.Facts.{toZ-ofZ}
 use Rattle.momentum.specs.Fits.{FaceFits}
-use Rattle.heights.specs.Ways.{isWall}
-use Rattle.heights.proofs.Pointing.{beside}
-use Rattle.heights.proofs.Sites.{time, side-fits}
-use Rattle.velocities.specs.Faces.{AtFace}
-use Rattle.velocities.proofs.Around.{inner-at}
-use Rattle.velocities.proofs.Flows.{sound-of}
-use Rattle.velocities.proofs.Ranges.{face-fits}
+use Rattle.layout.specs.Ways.{isWall}
+use Rattle.layout.proofs.Pointing.{beside}
+use Rattle.transfers.proofs.Sites.{time, side-fits}
+use Rattle.around.specs.Faces.{AtFace}
+use Rattle.around.proofs.Around.{inner-at}
+use Rattle.around.proofs.Flows.{sound-of}
+use Rattle.around.proofs.Ranges.{face-fits}
 use Rattle.velocities.proofs.Velocities.{new-is}
 use Rattle.velocities.proofs.passes.velocity.Statement.{statement}
 use Rattle.velocities.proofs.passes.velocity.Tie as tie

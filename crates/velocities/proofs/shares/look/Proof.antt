@@ -3,10 +3,10 @@ use Prim.Native.Nat.{_-_}
 use native.Mathlib.Omega.{arith}
 use borrow.Author.Needs.{needs}
 use Rattle.laws.specs.Gather.{RowsGathered, CellsGathered, rows-none, row-none, row-more, rows-more, rows-all}
-use Rattle.heights.proofs.Sites.{facts}
+use Rattle.transfers.proofs.Sites.{facts}
 use Rattle.velocities.specs.Shares.{shareFits}
-use Rattle.velocities.proofs.Around.{forth-back}
-use Rattle.velocities.proofs.Flows.{sound-of}
+use Rattle.around.proofs.Around.{forth-back}
+use Rattle.around.proofs.Flows.{sound-of}
 use Rattle.velocities.proofs.shares.look.Statement.{statement}
 use Rattle.velocities.proofs.shares.look.Tie as tie
 

@@ -6,7 +6,7 @@ use lib.Signed.{leZ}
 use mir.Facts.{toZ-ofZ}
 use Rattle.rules.specs.Step.{ownShare}
 use Rattle.momentum.specs.Fits.{FaceFits}
-use Rattle.velocities.proofs.Ranges.{face-fits}
+use Rattle.around.proofs.Ranges.{face-fits}
 use Rattle.velocities.proofs.shares.share_fits.Statement.{statement}
 use Rattle.velocities.proofs.shares.share_fits.Tie as tie
 

@@ -3,8 +3,8 @@ use mathlib.Core.Path.{sym, _∙_}
 use borrow.Author.Needs.{needs}
 use borrow.Author.Tests.{not-true, not-false}
 use Rattle.rules.specs.Step.{sharesFit}
-use Rattle.heights.specs.Ways.{back}
-use Rattle.velocities.specs.Faces.{innerFace}
+use Rattle.layout.specs.Ways.{back}
+use Rattle.around.specs.Faces.{innerFace}
 use Rattle.velocities.proofs.shares.shares_fit.Statement.{statement}
 use Rattle.velocities.proofs.shares.shares_fit.Tie as tie
 

@@ -1,0 +1,5 @@
+pub mod Abreast
+pub mod Around
+pub mod Flows
+pub mod Places
+pub mod Ranges

@@ -1,0 +1,3 @@
+// What stands around each inner face: its eighteen numbers, gathered from ground, state and tide.
+pub mod faces;
+mod words;

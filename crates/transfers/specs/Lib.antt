@@ -1,0 +1,2 @@
+pub mod Tide
+pub mod Known
