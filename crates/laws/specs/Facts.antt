@@ -9,7 +9,7 @@ use lib.IntN.{ℤ, pos, negsuc, natAbs}
 use lib.Signed.{leZ}
 use lib.ListN.{length, getD, List·getD-eq-default}
 use lib.Dec.{T, leb, ltb, eqb, leb→le, eqb→eq}
-use borrow.Author.Tests.{ltb-true, ltb-false}
+use borrow.Author.Tests.{ltb-true, ltb-false, eq-eqb}
 use lib.Arith.{digits-lt}
 use Rattle.rules.specs.declared.Card.{Card}
 use Rattle.rules.specs.Grid.{all}
@@ -205,16 +205,20 @@ sound-check c g s sound = together sound
 pub check-facts : (c : Card) (g s : List ℤ) → check c g s ≡ 0 → Fits c g s
 check-facts c g s e = sound-facts c g s (check-sound c g s e)
 
--- where one more list is lent
-pub check-with-sound : (c : Card) (g s : List ℤ) (room : ℕ) → checkWith c g s room ≡ 0 → Sound c g s
-unfolding checkWith
-check-with-sound c g s room e = granted true (eqb room (stateLength c)) true c g s e .sound
+-- a sound site, and one more list that is as long as its state
+pub record SoundWith (c : Card) (g s more : List ℤ) : Type 0 where
+  pub sound : Sound c g s
+  pub long : length more ≡ stateLength c
 
--- and that list is as long as the state
-pub check-with-facts : (c : Card) (g s : List ℤ) (room : ℕ) → checkWith c g s room ≡ 0 → Fits c g s × (room ≡ stateLength c)
+pub check-with-sound : (c : Card) (g s more : List ℤ) → checkWith c g s (length more) ≡ 0 → SoundWith c g s more
 unfolding checkWith
-check-with-facts c g s room e =
-    (sound-facts c g s (check-with-sound c g s room e), eqb→eq room (stateLength c) (granted true (eqb room (stateLength c)) true c g s e .for-2))
+check-with-sound c g s more e =
+    let a = granted true (eqb (length more) (stateLength c)) true c g s e in
+    record { sound = a .sound; long = eqb→eq (length more) (stateLength c) (a .for-2) }
+
+pub sound-check-with : (c : Card) (g s more : List ℤ) → SoundWith c g s more → checkWith c g s (length more) ≡ 0
+unfolding checkWith checkAlso
+sound-check-with c g s more w = rw (eq-eqb (length more) (stateLength c) (w .long)) (together (w .sound))
 
 -- it says the same as the check without that list, where the list is as long as the state
 pub check-own : (c : Card) (g s : List ℤ) → checkWith c g s (length s) ≡ check c g s

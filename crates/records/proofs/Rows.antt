@@ -14,11 +14,13 @@ use Rattle.rules.specs.declared.Card.{Card}
 use Rattle.rules.specs.declared.Chamber.{Chamber}
 use Rattle.rules.specs.declared.Window.{Window}
 use Rattle.rules.specs.declared.Found.{Found}
-use Rattle.rules.specs.Site.{cardFits, lengthsFit, firstOf, checkAlso}
+use Rattle.rules.specs.Site.{cardFits, lengthsFit, firstOf, ifDone, checkAlso}
 use Rattle.rules.specs.Search.{registerFits, xsOf, ysOf}
 use Rattle.rules.specs.Calls.{searchCheck}
 use Rattle.rules.specs.Contracts.{SearchContract, RowSearchContract}
-use Rattle.laws.specs.Tests.{and-left, and-right, to-T}
+use Rattle.laws.specs.Tests.{and-left, to-T}
+use Rattle.laws.specs.Checks.{apart, by-front}
+use Rattle.site.specs.Front.{frontAlso}
 use Rattle.records.specs.Row.{none, putAt, gathered, toRead, Readable}
 use Rattle.records.specs.Gathered.{GatheredAnswer}
 use Rattle.search.proofs.Answers.{refused}
@@ -66,40 +68,37 @@ gathered-ys row k = back row (length row) (omega arith) k ∙ ap ysOf (take-leng
 -- ---- how many are read
 
 module _ (c : Card) (g s : List ℤ) where
+  few-passed : (n : ℕ) → frontAlso true (leb n 1000) c g s ≡ 0 → n ≤ 1000
+  unfolding frontAlso
+  few-passed n e =
+      let p = apart (cardFits c) (leb n 1000 && lengthsFit c g s) true e in
+      leb→le n 1000 (and-left (leb n 1000) (lengthsFit c g s) (to-T (p .lengths)))
+
   pub readable : (row : List Chamber) → Readable row (toRead c g s (length row))
-  unfolding toRead
-  readable row = go (cardFits c && (leb (length row) 1000 && lengthsFit c g s)) refl
+  unfolding toRead ifDone
+  readable row = go (frontAlso true (leb (length row) 1000) c g s) refl
     where
-      go : (t : Bool) → (cardFits c && (leb (length row) 1000 && lengthsFit c g s)) ≡ t → Readable row (cond t (length row) 0)
-      go true e = record { most = omega arith; few = leb→le (length row) 1000 (and-left (leb (length row) 1000) (lengthsFit c g s) (and-right (cardFits c) _ (to-T e))) }
-      go false e = record { most = zero-le; few = zero-le }
+      go : (k : ℕ) → frontAlso true (leb (length row) 1000) c g s ≡ k → Readable row (ifDone k (length row) 0)
+      go zero e = record { most = omega arith; few = few-passed (length row) e }
+      go (suc k) e = record { most = zero-le; few = zero-le }
 
 -- ---- the answer
 
--- the card's refusal comes first
-first-two : (card lengths values : Bool) → (card && lengths) ≡ false → firstOf card lengths values ≡ cond {A = ℕ} card 2 1
+-- where the front refuses, one test more for 2 changes nothing
+early : (a e f l v : Bool) (k : ℕ) → k ≡ firstOf a (f && l) true → (k ≡ 0 → ⊥) → firstOf a ((e && f) && l) v ≡ k
 unfolding firstOf
-first-two false l v e = refl
-first-two true false v e = refl
-first-two true true v e = absurd (true≢false e)
-
-not-zero : (t : Bool) → cond {A = ℕ} t 2 1 ≡ 0 → ⊥
-not-zero true e = suc-ne-zero 1 e
-not-zero false e = suc-ne-zero 0 e
-
--- one test more changes nothing where the others fail
-still-fails : (a e f l : Bool) → (a && (f && l)) ≡ false → (a && ((e && f) && l)) ≡ false
-still-fails false e f l h = refl
-still-fails true false f l h = refl
-still-fails true true f l h = h
+early false e f l v k p h = sym p
+early true true f l v k p h = by-front true (f && l) v k p h
+early true false false l v k p h = sym p
+early true false true false v k p h = sym p
+early true false true true v k p h = absurd (h p)
 
 module _ (c : Card) (g s : List ℤ) (w : Window) (depth : ℤ) (lent : List ℕ) where
-  -- where the card or a length is refused, the answer does not hang on the chambers
-  refused-early : (xs ys : List ℤ) → (cardFits c && (leb (length xs) 1000 && lengthsFit c g s)) ≡ false → SearchContract c g s xs ys w depth lent (record { number = cond {A = ℕ} (cardFits c) 2 1; count = 0 }) lent
-  unfolding searchCheck checkAlso registerFits
-  refused-early xs ys h =
-      let tests = still-fails (cardFits c) (eqb (length xs) (length ys)) (leb (length xs) 1000) (lengthsFit c g s) h in
-      refused c g s xs ys w depth lent _ (sym (first-two (cardFits c) _ _ tests)) (not-zero (cardFits c))
+  -- then the answer does not hang on the chambers
+  refused-early : (xs ys : List ℤ) (k : ℕ) → k ≡ frontAlso true (leb (length xs) 1000) c g s → (k ≡ 0 → ⊥) → SearchContract c g s xs ys w depth lent (record { number = k; count = 0 }) lent
+  unfolding searchCheck checkAlso registerFits frontAlso
+  refused-early xs ys k e h =
+      refused c g s xs ys w depth lent k (sym (early (cardFits c) (eqb (length xs) (length ys)) (leb (length xs) 1000) (lengthsFit c g s) _ k e h)) h
 
   module _ (r : Found) (left : List ℕ) (row : List Chamber) where
     abbrev n : ℕ
@@ -108,30 +107,34 @@ module _ (c : Card) (g s : List ℤ) (w : Window) (depth : ℤ) (lent : List ℕ
     abbrev both : List ℤ
     both = gathered row (toRead c g s n)
 
+    abbrev number : ℕ
+    number = frontAlso true (leb n 1000) c g s
+
     -- every chamber was read
-    read : (cardFits c && (leb n 1000 && lengthsFit c g s)) ≡ true → n ≤ 1000 → GatheredAnswer c g s both n w depth lent r left → RowSearchContract c g s row w depth lent r left
-    unfolding toRead
+    read : number ≡ 0 → n ≤ 1000 → GatheredAnswer c g s both n w depth lent r left → RowSearchContract c g s row w depth lent r left
+    unfolding toRead ifDone
     read e k a = rw (← gathered-xs row k, ← gathered-ys row k) (rw e at (a .few k))
 
     -- none was: the number stands before any is looked at
-    unread : (cardFits c && (leb n 1000 && lengthsFit c g s)) ≡ false → GatheredAnswer c g s both n w depth lent r left → RowSearchContract c g s row w depth lent r left
-    unread e a = go (leb n 1000) refl
+    unread : (number ≡ 0 → ⊥) → GatheredAnswer c g s both n w depth lent r left → RowSearchContract c g s row w depth lent r left
+    unread h a = go (leb n 1000) refl
       where
-        own : SearchContract c g s (xsOf row) (ysOf row) w depth lent (record { number = cond {A = ℕ} (cardFits c) 2 1; count = 0 }) lent
-        own = refused-early (xsOf row) (ysOf row) (rw (length-map row (λ (c : Chamber). c .x)) e)
+        own : SearchContract c g s (xsOf row) (ysOf row) w depth lent (record { number = number; count = 0 }) lent
+        own = refused-early (xsOf row) (ysOf row) number (rw (length-map row (λ (c : Chamber). c .x)) refl) h
 
         go : (t : Bool) → leb n 1000 ≡ t → RowSearchContract c g s row w depth lent r left
         go true f =
             let few = a .few (leb-true n 1000 f) in
-            let its = refused-early (take n both) (take n (drop 1000 both)) (rw (length-take-le n both (omega (arith, gathered-length row (toRead c g s n), leb-true n 1000 f))) e) in
+            let long : length (take n both) ≡ n = length-take-le n both (omega (arith, gathered-length row (toRead c g s n), leb-true n 1000 f)) in
+            let its = refused-early (take n both) (take n (drop 1000 both)) number (ap (λ (m : ℕ). frontAlso true (leb m 1000) c g s) (sym long)) h in
             record { answer = few .answer ∙ sym (its .answer) ∙ own .answer; found-exit = few .found-exit ∙ sym (its .found-exit) ∙ own .found-exit }
         go false f =
             let many = a .many (leb-false n 1000 f) in
-            record { answer = many .0 ∙ own .answer; found-exit = many .1 ∙ own .found-exit }
+            record { answer = many .0 ∙ ap (λ (b : Bool). record { number = frontAlso true b c g s; count = 0 }) (sym f) ∙ own .answer; found-exit = many .1 ∙ own .found-exit }
 
     pub row-answers : GatheredAnswer c g s both n w depth lent r left → RowSearchContract c g s row w depth lent r left
-    row-answers a = go (cardFits c && (leb n 1000 && lengthsFit c g s)) refl
+    row-answers a = go number refl
       where
-        go : (t : Bool) → (cardFits c && (leb n 1000 && lengthsFit c g s)) ≡ t → RowSearchContract c g s row w depth lent r left
-        go true e = read e (leb→le n 1000 (and-left (leb n 1000) (lengthsFit c g s) (and-right (cardFits c) _ (to-T e)))) a
-        go false e = unread e a
+        go : (k : ℕ) → number ≡ k → RowSearchContract c g s row w depth lent r left
+        go zero e = read e (few-passed c g s n e) a
+        go (suc k) e = unread (λ z. suc-ne-zero k (sym e ∙ z)) a

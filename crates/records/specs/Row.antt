@@ -1,6 +1,6 @@
 -- A row of chamber records laid into one array of numbers: the x of chamber i at place i, its y at place 1,000 + i.
 use mathlib.Core.Path.{_≡_, refl}
-use mathlib.Core.Bool.{cond, _&&_}
+use mathlib.Core.Bool.{true}
 use Prim.Native.Nat.{ℕ, zero, suc, _+_, _≤_}
 use native.Mathlib.Numerals.{add-one}
 use mathlib.Core.List.{List}
@@ -9,11 +9,12 @@ use lib.IntN.{ℤ, pos}
 use lib.ListN.{length, getD, set, replicate}
 use Rattle.rules.specs.declared.Card.{Card}
 use Rattle.rules.specs.declared.Chamber.{Chamber}
-use Rattle.rules.specs.Site.{cardFits, lengthsFit}
+use Rattle.rules.specs.Site.{ifDone}
+use Rattle.site.specs.Front.{frontAlso}
 
 -- how many of n chambers are read: none where the card or a length is refused
 unfoldable pub toRead : Card → (ground state : List ℤ) (n : ℕ) → ℕ
-toRead c g s n = cond (cardFits c && (leb n 1000 && lengthsFit c g s)) n 0
+toRead c g s n = ifDone (frontAlso true (leb n 1000) c g s) n 0
 
 -- so many are in the row, and in the array's room
 pub record Readable (row : List Chamber) (n : ℕ) : Type 0 where

@@ -23,10 +23,10 @@ pub fn to_read(card: Card, ground: &[i32], state: &[i32], n: usize) -> usize
     ensures { λ r. ⌜ r ≡ toRead card (now (ground .entry)) (now (state .entry)) n ⌝ }
 {
     let front = site::front(card, ground, state, true, n <= 1000);
-    if front != 0 {
-        return 0;
+    if front == 0 {
+        return n;
     }
-    n
+    0
 }
 
 // Lays one chamber at place i: its x there, its y 1,000 places on.
@@ -82,7 +82,8 @@ fn search_parts(
     )
 }
 
-// The same where n may be over 1,000: those were not gathered, and are refused.
+// The same where n may be over 1,000: those were not gathered, and are refused. Where the card or a length is refused none was gathered either, and the search
+// over the two parts refuses before it looks at them.
 pub fn search_gathered(
     card: Card,
     ground: &[i32],
@@ -96,16 +97,8 @@ pub fn search_gathered(
     ensures { λ r. ⌜ GatheredAnswer card (now (ground .entry)) (now (state .entry)) both n window depth (now (found .entry)) r (now (found .exit)) ⌝ }
 {
     if 1000 < n {
-        if card::card_fits(card) {
-            return Found {
-                number: 2,
-                count: 0,
-            };
-        }
-        return Found {
-            number: 1,
-            count: 0,
-        };
+        let number = site::front(card, ground, state, true, false);
+        return Found { number, count: 0 };
     }
     search_parts(card, ground, state, &both, n, window, depth, found)
 }

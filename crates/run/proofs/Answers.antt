@@ -1,4 +1,4 @@
--- What the first three checks give a run, and each answer of the public run.
+-- What a sound site gives a run, and each answer of the public run.
 use mathlib.Core.Path.{_≡_, sym, ap, _∙_}
 use mathlib.Core.List.{List}
 use Prim.Native.Nat.{ℕ, _≤_}
@@ -13,15 +13,15 @@ use Rattle.rules.specs.Site.{stateLength, checkWith}
 use Rattle.rules.specs.Run.{Outcome, runAfter, runAll}
 use Rattle.rules.specs.Calls.{runOutcome, runTally, runState, runScratch}
 use Rattle.rules.specs.Contracts.{RunContract}
-use Rattle.laws.specs.Facts.{check-with-sound, check-with-facts}
+use Rattle.laws.specs.Facts.{SoundWith, sound-facts, sound-check-with}
 use Rattle.laws.specs.Outcomes.{if-done, if-refused}
 use Rattle.laws.specs.Runs.{refused-after}
 use Rattle.steps.specs.Running.{RunRoom, Ended}
 use Rattle.run.specs.Roomy.{Roomy}
 
 -- no state is longer than the longest
-pub state-few : (c : Card) (g s x : List ℤ) → checkWith c g s (length x) ≡ 0 → length s ≤ 49408
-state-few c g s x e = let f = check-with-facts c g s (length x) e .0 in omega (arith, f .lengths .state, f .card .state-high)
+pub state-few : (c : Card) (g s x : List ℤ) → SoundWith c g s x → length s ≤ 49408
+state-few c g s x w = let f = sound-facts c g s (w .sound) in omega (arith, f .lengths .state, f .card .state-high)
 
 module _ {c : Card} {g s x t : List ℤ} (roomy : Roomy c g s x t) where
   pub tide-part : length (take (length s) t) ≡ length s
@@ -29,12 +29,11 @@ module _ {c : Card} {g s x t : List ℤ} (roomy : Roomy c g s x t) where
 
   pub run-room : RunRoom c g s x (take (length s) t)
   run-room =
-      let state : length s ≡ stateLength c = check-with-facts c g s (length x) (roomy .passes) .0 .lengths .state in
-      let room : length x ≡ stateLength c = check-with-facts c g s (length x) (roomy .passes) .1 in
+      let state : length s ≡ stateLength c = sound-facts c g s (roomy .site .sound) .lengths .state in
       record {
-        sound = check-with-sound c g s (length x) (roomy .passes);
+        sound = roomy .site .sound;
         state-long = state;
-        scratch-long = room;
+        scratch-long = roomy .site .long;
         tide-long = tide-part ∙ state;
       }
 
@@ -51,9 +50,10 @@ module _ (c : Card) (g s x : List ℤ) where
       }
 
   -- else the run's outcome, and scratch all zero
-  pub ran : {t : Tally} {s′ y : List ℤ} → checkWith c g s (length x) ≡ 0 → Ended (runAll c g s) t s′ → y ≡ replicate (length x) (pos 0) → RunContract c g s x t s′ y
+  pub ran : {t : Tally} {s′ y : List ℤ} → SoundWith c g s x → Ended (runAll c g s) t s′ → y ≡ replicate (length x) (pos 0) → RunContract c g s x t s′ y
   unfolding runTally runState runScratch runOutcome runAfter
-  ran e o z =
+  ran site o z =
+      let e = sound-check-with c g s x site in
       let p : runAfter (checkWith c g s (length x)) c g s ≡ runAll c g s = ap (λ (k : ℕ). runAfter k c g s) e in
       record {
         answer = o .tallied ∙ sym (ap (λ (o : Outcome). o .tally) p);

@@ -1,8 +1,6 @@
 // The run, for any card, any lists and any words in them: the checks, a tide to work in, and the scratch list all zero at the end.
-ghost use mathlib.Core.Path.{_≡_};
-ghost use lib.ListN.{length};
-ghost use Rattle.rules.specs.Site.{checkWith};
 ghost use Rattle.rules.specs.Contracts.{RunContract};
+ghost use Rattle.laws.specs.Facts.{SoundWith};
 ghost use Rattle.run.specs.Roomy.{Roomy, Small};
 use rules::Card;
 use rules::Tally;
@@ -33,7 +31,7 @@ fn small_run(card: Card, ground: &[i32], state: &mut [i32], scratch: &mut [i32])
 }
 
 fn large_run(card: Card, ground: &[i32], state: &mut [i32], scratch: &mut [i32]) -> Tally
-    requires { ⌜ checkWith card (now ground) (now state) (length (now scratch)) ≡ 0 ⌝ }
+    requires { ⌜ SoundWith card (now ground) (now state) (now scratch) ⌝ }
     ensures { λ r. ⌜ RunContract card (now (ground .entry)) (now (state .entry)) (now (scratch .entry)) r (now (state .exit)) (now (scratch .exit)) ⌝ }
 {
     let mut tide = lists::longest();
@@ -49,7 +47,7 @@ fn run_within(
     scratch: &mut [i32],
     room: usize,
 ) -> Tally
-    requires { ⌜ checkWith card (now ground) (now state) (length (now scratch)) ≡ 0 ⌝ }
+    requires { ⌜ SoundWith card (now ground) (now state) (now scratch) ⌝ }
     ensures { λ r. ⌜ RunContract card (now (ground .entry)) (now (state .entry)) (now (scratch .entry)) r (now (state .exit)) (now (scratch .exit)) ⌝ }
 {
     if state.len() > room {

@@ -1,4 +1,4 @@
--- What the first three checks give a step that works in a draft, and each answer of the public step.
+-- What a sound site gives a step that works in a draft, and each answer of the public step.
 use mathlib.Core.Path.{_≡_, _∙_, sym, ap}
 use mathlib.Core.List.{List, _++_}
 use Prim.Native.Nat.{ℕ, _≤_}
@@ -11,21 +11,21 @@ use Rattle.rules.specs.Site.{stateLength, checkWith, ifDone}
 use Rattle.rules.specs.Step.{stepNumber, nextState}
 use Rattle.rules.specs.Calls.{stepAnswer, stepNext}
 use Rattle.rules.specs.Contracts.{StepContract}
-use Rattle.laws.specs.Facts.{check-with-sound, check-with-facts}
+use Rattle.laws.specs.Facts.{SoundWith, sound-facts, sound-check-with}
 use Rattle.laws.specs.Outcomes.{first-refused, first-passed, if-refused, if-same}
 use Rattle.lists.specs.Renewed.{renewed}
 use Rattle.advance.specs.Advance.{StepRoom, Advanced}
 use Rattle.step.specs.Draft.{Drafting}
 
--- ---- the checks passed
+-- ---- a sound site
 
 -- no state is longer than the longest
-pub room-few : (c : Card) (g s n : List ℤ) → checkWith c g s (length n) ≡ 0 → length n ≤ 49408
-room-few c g s n e = let f = check-with-facts c g s (length n) e in omega (arith, f .1, f .0 .card .state-high)
+pub room-few : (c : Card) (g s n : List ℤ) → SoundWith c g s n → length n ≤ 49408
+room-few c g s n w = omega (arith, w .long, sound-facts c g s (w .sound) .card .state-high)
 
 module _ {c : Card} {g s t d n : List ℤ} (drafting : Drafting c g s t d n) where
   room-long : length n ≡ stateLength c
-  room-long = check-with-facts c g s (length n) (drafting .passes) .1
+  room-long = drafting .site .long
 
   pub tide-part : length (take (length n) t) ≡ length n
   tide-part = length-take-le (length n) t (drafting .tide)
@@ -35,10 +35,10 @@ module _ {c : Card} {g s t d n : List ℤ} (drafting : Drafting c g s t d n) whe
 
   -- the state has as many words as the next state
   pub state-room : length n ≤ length s
-  state-room = omega (arith, room-long, check-with-facts c g s (length n) (drafting .passes) .0 .lengths .state)
+  state-room = omega (arith, room-long, sound-facts c g s (drafting .site .sound) .lengths .state)
 
   pub step-room : StepRoom c g s (take (length n) t) (take (length n) d)
-  step-room = record { sound = check-with-sound c g s (length n) (drafting .passes); tide = tide-part ∙ room-long; next = draft-part ∙ room-long }
+  step-room = record { sound = drafting .site .sound; tide = tide-part ∙ room-long; next = draft-part ∙ room-long }
 
   -- ---- what was worked out in the front of the draft
 
@@ -49,10 +49,10 @@ module _ {c : Card} {g s t d n : List ℤ} (drafting : Drafting c g s t d n) whe
 
 -- ---- the answer where the checks are passed: 0 and the next state, or 4 to 7 and the next state as lent
 
-pub answered : {c : Card} {g s n : List ℤ} → checkWith c g s (length n) ≡ 0 → {r : ℕ} (list : List ℤ) {m : List ℤ} → m ≡ renewed r list n → Advanced c g s r (take (length n) list) → StepContract c g s n r m
+pub answered : {c : Card} {g s n : List ℤ} → SoundWith c g s n → {r : ℕ} (list : List ℤ) {m : List ℤ} → m ≡ renewed r list n → Advanced c g s r (take (length n) list) → StepContract c g s n r m
 unfolding stepAnswer stepNext renewed
-answered {c} {g} {s} {n} passes {r} list {m} is a =
-    let k : r ≡ stepAnswer c g s n = a .number ∙ sym (first-passed (checkWith c g s (length n)) (stepNumber c g s) passes) in
+answered {c} {g} {s} {n} site {r} list {m} is a =
+    let k : r ≡ stepAnswer c g s n = a .number ∙ sym (first-passed (checkWith c g s (length n)) (stepNumber c g s) (sound-check-with c g s n site)) in
     record { answer = k; next-exit = is ∙ if-same r n (a .state) ∙ ap (λ (x : ℕ). ifDone x (nextState c g s) n) k }
 
 -- ---- 1 to 3: the next state as lent

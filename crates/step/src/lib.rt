@@ -1,12 +1,10 @@
 // One step of water over a site, for any card, any lists and any words in them.
-ghost use mathlib.Core.Path.{_≡_};
-ghost use lib.ListN.{length};
-ghost use Rattle.rules.specs.Site.{checkWith};
 ghost use Rattle.rules.specs.Contracts.{StepContract};
+ghost use Rattle.laws.specs.Facts.{SoundWith};
 ghost use Rattle.step.specs.Draft.{Drafting, Small};
 use rules::Card;
 
-// One step that passes the first three checks, worked out in the draft, so that a refused step leaves the next state as it was lent.
+// One step of a sound site, worked out in the draft, so that a refused step leaves the next state as it was lent.
 fn step_by_draft(
     card: Card,
     ground: &[i32],
@@ -34,7 +32,7 @@ fn small_step(card: Card, ground: &[i32], state: &[i32], next: &mut [i32]) -> u3
 }
 
 fn large_step(card: Card, ground: &[i32], state: &[i32], next: &mut [i32]) -> u32
-    requires { ⌜ checkWith card (now ground) (now state) (length (now next)) ≡ 0 ⌝ }
+    requires { ⌜ SoundWith card (now ground) (now state) (now next) ⌝ }
     ensures { λ r. ⌜ StepContract card (now (ground .entry)) (now (state .entry)) (now (next .entry)) r (now (next .exit)) ⌝ }
 {
     let mut tide = lists::longest();
@@ -45,7 +43,7 @@ fn large_step(card: Card, ground: &[i32], state: &[i32], next: &mut [i32]) -> u3
 // A step on lists that have room for so many words; where the state has more, it calls itself for the longest lists. The compiler keeps a function that calls
 // itself, and the lists of those that it calls, out of its caller's stack frame: so a refused step takes no list's stack, and a small one no long list's.
 fn step_within(card: Card, ground: &[i32], state: &[i32], next: &mut [i32], room: usize) -> u32
-    requires { ⌜ checkWith card (now ground) (now state) (length (now next)) ≡ 0 ⌝ }
+    requires { ⌜ SoundWith card (now ground) (now state) (now next) ⌝ }
     ensures { λ r. ⌜ StepContract card (now (ground .entry)) (now (state .entry)) (now (next .entry)) r (now (next .exit)) ⌝ }
 {
     if next.len() > room {

@@ -1,6 +1,6 @@
 -- `search_gathered`: over 1,000 chambers are refused here, and the others are searched.
 use borrow.Author.Needs.{needs}
-use mathlib.Core.Path.{refl, sym, _∙_, subst}
+use mathlib.Core.Path.{refl, subst}
 use native.Mathlib.Nat.{not-le-of-lt}
 use lib.IntN.{ℤ}
 use mir.Facts.{toZ-ofZ}
@@ -8,14 +8,11 @@ use Rattle.records.specs.Gathered.{PartsContract}
 use Rattle.records.proofs.search_gathered.Statement.{statement}
 use Rattle.records.proofs.search_gathered.Tie as tie
 
-card-fits-requires : tie.Need-card-fits-requires
-card-fits-requires c κs = search needs
+front-requires : tie.Need-front-requires
+front-requires c κs = search needs
 
 returns : tie.Need-returns
-returns c = record { many = λ h. (rw (sym (c .before .card-fits .ensures) ∙ c .if2 .taken), refl); few = λ h. absurd (not-le-of-lt (c .before .before .if1 .taken) h) }
-
-returns-2 : tie.Need-returns-2
-returns-2 c = record { many = λ h. (rw (sym (c .before .card-fits .ensures) ∙ c .if2 .left), refl); few = λ h. absurd (not-le-of-lt (c .before .before .if1 .taken) h) }
+returns c = record { many = λ h. (rw (c .front .ensures), refl); few = λ h. absurd (not-le-of-lt (c .before .if1 .taken) h) }
 
 slice-aggregate-search-parts : tie.Need-slice-aggregate-search-parts
 slice-aggregate-search-parts c = search needs
@@ -26,8 +23,8 @@ search-parts-requires c κs = search needs
 same-length : tie.Need-same-length
 same-length c = search needs
 
-returns-3 : tie.Need-returns-3
-returns-3 c =
+returns-2 : tie.Need-returns-2
+returns-2 c =
     let f = c .before .before in
     let e = f .before .before .before in
     let o = e .before .before in
@@ -42,10 +39,9 @@ pub search-gathered-spec : {M : Type 1} → statement M
 search-gathered-spec =
     tie.close
     (tie.spec
-    card-fits-requires
+    front-requires
     returns
-    returns-2
     slice-aggregate-search-parts
     search-parts-requires
     same-length
-    returns-3)
+    returns-2)

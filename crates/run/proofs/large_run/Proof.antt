@@ -15,7 +15,7 @@ run-in-requires c κs =
     let start = c .before .before .before .before in
     let a = start .args in
     record {
-      passes = start .pre;
+      site = start .pre;
       tide-room = omega (arith, state-few (a .card) (a .ground .now) (a .state .now) (a .scratch .now) (start .pre), c .before .before .before .longest .ensures);
     }
 

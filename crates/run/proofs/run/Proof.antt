@@ -1,4 +1,6 @@
+use mathlib.Core.Path.{sym, _∙_}
 use borrow.Author.Needs.{needs}
+use Rattle.laws.specs.Facts.{check-with-sound}
 use Rattle.run.proofs.Answers.{refused}
 use Rattle.run.proofs.run.Statement.{statement}
 use Rattle.run.proofs.run.Tie as tie
@@ -13,7 +15,7 @@ returns : tie.Need-returns
 returns c = refused _ _ _ _ _ (c .before .check-with .ensures) (c .if1 .taken)
 
 run-within-requires : tie.Need-run-within-requires
-run-within-requires c κs = search needs
+run-within-requires c κs = check-with-sound _ _ _ _ (sym (c .before .before .before .check-with .ensures) ∙ c .before .before .if1 .left)
 
 same-length-2 : tie.Need-same-length-2
 same-length-2 c = search needs

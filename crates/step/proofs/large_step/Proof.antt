@@ -22,7 +22,7 @@ step-by-draft-requires c κs =
     let a = start .args in
     let few = room-few (a .card) (a .ground .now) (a .state .now) (a .next .now) (start .pre) in
     record {
-      passes = start .pre;
+      site = start .pre;
       tide = omega (arith, few, c .before .before .before .before .longest .ensures);
       draft = omega (arith, few, c .before .before .before .longest2 .ensures);
     }

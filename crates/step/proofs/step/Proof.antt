@@ -1,4 +1,6 @@
+use mathlib.Core.Path.{sym, _∙_}
 use borrow.Author.Needs.{needs}
+use Rattle.laws.specs.Facts.{check-with-sound}
 use Rattle.step.proofs.Drafts.{refused-early}
 use Rattle.step.proofs.step.Statement.{statement}
 use Rattle.step.proofs.step.Tie as tie
@@ -10,7 +12,7 @@ returns : tie.Need-returns
 returns c = refused-early (c .before .check-with .ensures) (c .if1 .taken)
 
 step-within-requires : tie.Need-step-within-requires
-step-within-requires c κs = search needs
+step-within-requires c κs = check-with-sound _ _ _ _ (sym (c .before .before .check-with .ensures) ∙ c .before .if1 .left)
 
 same-length : tie.Need-same-length
 same-length c = search needs
