@@ -31,13 +31,6 @@ after-card true true two lengths values = refl
 after-card true false two lengths values = refl
 after-card false card two lengths values = refl
 
--- the first two alone
-pub front-failed : (a l : Bool) → (firstOf a l true ≡ 0 → ⊥) → (a && l) ≡ false
-unfolding firstOf
-front-failed false l h = refl
-front-failed true false h = refl
-front-failed true true h = absurd (h refl)
-
 -- the three, where the first two are looked at before the third
 pub by-front : (a l v : Bool) (k : ℕ) → k ≡ firstOf a l true → (k ≡ 0 → ⊥) → firstOf a l v ≡ k
 unfolding firstOf
