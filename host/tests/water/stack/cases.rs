@@ -82,7 +82,7 @@ pub fn search_lists(site: Wild, count: i64) -> Call {
     Box::new(move || calls::search_lists(site.card, &site.ground, &site.state, &xs, &ys, EVERYWHERE, 0, &mut found).map(drop))
 }
 
-/// The reader, on the sheet of the site as it would be with a ground of the right length.
+/// The reader, on the sheet of the site as it would be with a ground of the right length. The time step is the card's, even where no sheet would have it.
 pub fn read(mut site: Wild) -> Call {
     let words = std::iter::repeat(&0).take(site.card.cells() - site.ground.len()).chain(&site.ground).chain(&site.state);
     let mut sheet = vec![0; site.card.sheet_size()];
@@ -90,6 +90,7 @@ pub fn read(mut site: Wild) -> Call {
     if calls::write_sheet(still.card, &still.ground, &still.state, &mut sheet).is_ok() {
         let words: Vec<u8> = words.flat_map(|word| word.to_be_bytes()).collect();
         sheet[19..].copy_from_slice(&words);
+        sheet[15..17].copy_from_slice(&(site.card.dt as u16).to_be_bytes());
     }
     Box::new(move || calls::read_sheet(&sheet, &mut site.ground, &mut site.state).map(drop))
 }
