@@ -16,7 +16,7 @@
  * loader that binds memcpy and memset only when they are first called.
  *
  *                          any input   small site   refused
- *     water_step             397,000       27,000     1,000
+ *     water_step             398,000       27,000     1,000
  *     water_run              200,000       15,000     1,000
  *     water_search            38,000       38,000    38,000
  *     water_search_lists       6,000        6,000     6,000
