@@ -41,3 +41,4 @@ pub mod Fronts
 pub mod Listings
 pub mod Signs
 pub mod Swapped
+pub mod Floats

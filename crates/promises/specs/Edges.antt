@@ -2,13 +2,13 @@
 use mathlib.Core.Path.{_≡_, refl, sym, _∙_, ap, subst}
 use mathlib.Core.Bool.{Bool, true, false, not, _&&_, _||_, true≢false}
 use mathlib.Core.Logic.{inl, inr}
-use Prim.Native.Nat.{ℕ, zero, suc, _+_, _*_, _≤_, _<_, _^_, zero-le}
-use native.Mathlib.Nat.{mul-one, mul-right-comm, mul-le-mul-right, le-of-mul-le-mul-right, le-of-eq, le-of-lt, ne-of-gt, eq-or-lt-of-le, zero-mul, zero-add, add-zero, mul-pos, zero-lt-suc, lt-irrefl}
+use Prim.Native.Nat.{ℕ, zero, suc, _+_, _*_, _≤_, _<_, _^_}
+use native.Mathlib.Nat.{mul-one, mul-right-comm, mul-le-mul-right, le-of-mul-le-mul-right, le-of-eq, le-of-lt, ne-of-gt, eq-or-lt-of-le, zero-mul, mul-pos, zero-lt-suc, lt-irrefl}
 use native.Mathlib.Omega.{arith}
 use lib.Dec.{T, leb, ltb, eqb, leb→le, le→leb, ltb→lt}
 use lib.IntN.{ℤ, pos, negℤ}
 use lib.Signed.{leZ}
-use lib.Ieee.{Float, nan, inf, fin, up, down, binary64, lt, le, eq, ofInt}
+use lib.Ieee.{Float, nan, inf, fin, up, down, binary64, lt, le, ofInt}
 use lib.Ieee.Exact.{HasValue}
 use lib.Ieee.Back.{round-whole}
 use lib.Ieee.Fits.{down-pos}
@@ -177,29 +177,3 @@ pub none-in-order : (low high : Float) (n : ℕ) → n ≤ 2 ^ 53 → T (lt high
 none-in-order low high n h l =
     neither (le low (asFloat (pos n))) (le (asFloat (pos n)) high)
     (λ a b. no-way low high n (subst T (low-exact low n h) a) (subst T (high-exact high n h) b) l)
-
--- ---- The sign of 0 changes no test
-
-at-zero : (e d : ℤ) → 0 * up e * down d ≡ 0
-at-zero e d = ap (λ (k : ℕ). k * down d) (zero-mul (up e)) ∙ zero-mul (down d)
-
-not-below-zero : (b : ℕ) → ltb b 0 ≡ false
-not-below-zero b = le-ltb b 0 zero-le
-
-twice : (a : Bool) → (a && a) ≡ (a && true)
-twice true = refl
-twice false = refl
-
-pub zero-low : (e : ℤ) (v : Float) → le (fin true 0 e) v ≡ le (fin false 0 e) v
-unfolding le lt eq
-zero-low e nan = refl
-zero-low e (inf s) = refl
-zero-low e (fin false k d) = rw (at-zero e d, zero-add (k * up d * down e))
-zero-low e (fin true k d) = rw (at-zero e d, not-below-zero (k * up d * down e))
-
-pub zero-high : (e : ℤ) (v : Float) → le v (fin true 0 e) ≡ le v (fin false 0 e)
-unfolding le lt eq
-zero-high e nan = refl
-zero-high e (inf s) = refl
-zero-high e (fin false k d) = rw (at-zero e d, not-below-zero (k * up d * down e)) (twice (eqb (k * up d * down e) 0))
-zero-high e (fin true k d) = rw (at-zero e d, add-zero (k * up d * down e)) (ap (λ (t : Bool). ltb 0 (k * up d * down e) || t) (sym (twice (eqb (k * up d * down e) 0))))

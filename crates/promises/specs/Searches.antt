@@ -25,8 +25,9 @@ use Rattle.laws.specs.Sheets.{passed}
 use Rattle.laws.specs.Along.{along-whole, along-high, all-along, reach-high}
 use Rattle.laws.specs.Asked.{asked-facts, places-passed, number-passed}
 use Rattle.laws.specs.Rising.{rising, sound, complete, places-empty}
+use Rattle.laws.specs.Floats.{zero-low, zero-high}
 use Rattle.promises.specs.Refused.{search-refused}
-use Rattle.promises.specs.Edges.{atMost, atLeast, low-exact, high-exact, none-in-order, zero-low, zero-high}
+use Rattle.promises.specs.Edges.{atMost, atLeast, low-exact, high-exact, none-in-order}
 
 -- ---- One chamber against the window, in exact numbers
 

@@ -21,17 +21,21 @@ unfolding fitted
 fits-not t k h = rw (lt-leb _ _ h)
 
 -- nothing was put
-pub put-none : (t old : List ℕ) → length old < length t → Put t 0 old old
-put-none t old h = record { long = rw (fits-not t (length old) h); bytes = rw (fits-not t (length old) h) }
-
 pub put-nil : (old : List ℕ) → Put [] 0 old old
 put-nil old = record { long = rw (fits-in [] (length old) zero-le); bytes = rw (fits-in [] (length old) zero-le) }
 
--- the text in a slice that was put there by `bytes::copy`
-pub put-all : (t old new : List ℕ) (r : ℕ) → length t ≤ length old → r ≡ length t → new ≡ take (length t) t ++ drop (length t) old → Put t r old new
-put-all t old new r h e b = record {
-  long = rw (fits-in t (length old) h) e;
-  bytes = rw (fits-in t (length old) h, e) (b ∙ ap (λ (l : List ℕ). l ++ drop (length t) old) (take-length t));
+-- how much of a text is handed over to a room of k: nothing, or all of it
+pub handed-none : (t : List ℕ) (k n : ℕ) → k < length t → n ≡ 0 → take n t ≡ fitted t k
+handed-none t k n h e = rw (e, fits-not t k h)
+
+pub handed-all : (t : List ℕ) (k n : ℕ) → length t ≤ k → n ≡ length t → take n t ≡ fitted t k
+handed-all t k n h e = rw (e, fits-in t k h) (take-length t)
+
+-- and what `bytes::copy` then leaves
+pub put-handed : (t old new part : List ℕ) (r : ℕ) → part ≡ fitted t (length old) → r ≡ length part → new ≡ take (length part) part ++ drop (length part) old → Put t r old new
+put-handed t old new part r h e b = record {
+  long = e ∙ ap length h;
+  bytes = rw (e, ← h) (b ∙ ap (λ (l : List ℕ). l ++ drop (length part) old) (take-length part));
 }
 
 -- one byte more, behind a text that was put with room to spare

@@ -5,14 +5,13 @@ ghost use lib.ListN.{length};
 ghost use Rattle.rules.specs.Text.{decimal, cm};
 ghost use Rattle.put.specs.Put.{Put};
 
-// Copies text to the front of room and answers how many bytes, or answers 0 and changes nothing where the room is shorter.
+// Copies text to the front of room, all of it or, where the room is shorter, nothing. Answers how many bytes that is.
 pub fn put_front(text: &[u8], room: &mut [u8]) -> usize
     ensures { λ r. ⌜ Put (now (text .entry)) r (now (room .entry)) (now (room .exit)) ⌝ }
 {
-    if room.len() < text.len() {
-        return 0;
-    }
-    bytes::copy(text, room)
+    let n = text.len();
+    let handed = if room.len() < n { 0 } else { n };
+    bytes::copy(&text[..handed], room)
 }
 
 // The decimal digits of n at the front of room, and how many.

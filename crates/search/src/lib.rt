@@ -35,7 +35,7 @@ fn blank() -> [u32; 1000]
     [0; 1000]
 }
 
-// The list made in a draft, and copied where it has room.
+// The list made in a draft, and handed over: all of it or, where there is too little room, nothing.
 fn report(
     card: Card,
     state: &[i32],
@@ -51,10 +51,11 @@ fn report(
 {
     let n = register::list(card, state, window, depth, xs, ys, draft);
     let count = n as u32;
-    if found.len() < n {
+    let handed = if found.len() < n { 0 } else { n };
+    register::copy_front(draft, handed, found);
+    if handed < n {
         return Found { number: 8, count };
     }
-    register::copy_front(draft, n, found);
     Found { number: 0, count }
 }
 

@@ -30,7 +30,7 @@ pub fn inside(window: Window, x: i64, y: i64) -> bool
 {
     let x = x as f64;
     let y = y as f64;
-    let across = (window.west <= x) & (x <= window.east);
-    let along = (window.south <= y) & (y <= window.north);
-    across & along
+    let x_inside = (window.west <= x) & (x <= window.east);
+    let y_inside = (window.south <= y) & (y <= window.north);
+    x_inside & y_inside
 }
