@@ -24,6 +24,7 @@ pub fn card_fits(card: Card) -> bool
     (columns & rows) & (dx & dy) & (dt & (card.steps <= 10000))
 }
 
+// How many cells a site has.
 pub fn cells(card: Card) -> usize
     requires { ⌜ cardFits card ≡ true ⌝ }
     ensures { λ r. ⌜ (r ≡ Site·cells card) × (r ≤ 16384) ⌝ }

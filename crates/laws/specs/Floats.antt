@@ -4,15 +4,16 @@ use mathlib.Core.Bool.{Bool, true, false, not, _&&_, _||_, cond}
 use Prim.Native.Nat.{ℕ, zero, suc, _+_, _-_, _*_, _/_, _%_, _^_, _≤_, _<_, zero-le}
 use native.Mathlib.Nat.{mul-one, one-mul, mul-assoc, mul-comm, mul-right-comm, zero-mul, zero-add, add-zero, sub-zero, mul-pos, zero-lt-suc, mul-lt-mul-of-pos-right, lt-of-mul-lt-mul-right, lt-irrefl, lt-of-lt-of-le}
 use native.Mathlib.Omega.{arith}
-use lib.Dec.{T, leb, ltb, eqb, leb→le, ltb→lt, eqb→eq}
+use lib.Dec.{T, leb, ltb, eqb, leb→le, ltb→lt}
 use lib.IntN.{ℤ, pos, negsuc}
 use lib.Pow.{pow-add, pow-pos, pow-lt}
 use lib.Ieee.{Float, nan, inf, fin, Format, binary64, prec, emax, low, hid, top, up, down, size, round, sum, add, neg, sub, lt, le, eq, fits, ofBits, toBits}
 use lib.Ieee.Exact.{HasValue, round-exact}
-use lib.Ieee.Fits.{up-pos, down-pos, round-fits, and-l, and-r}
+use lib.Ieee.Fits.{up-pos, down-pos, round-fits}
 use lib.Ieee.Bits.{ofBits-toBits}
 use lib.Ieee.Nearest.{div-same}
 use borrow.Author.Tests.{lt-ltb, le-ltb, leb-false}
+use Rattle.laws.specs.Tests.{four-of, to-T}
 
 -- ---- The sign of 0 changes no test
 
@@ -70,7 +71,7 @@ module _ (f : Format) where
       record { j = low f - suc k; is = sym (pow-add 2 (low f - suc k) (suc k)) ∙ ap (λ (n : ℕ). 2 ^ n) (omega arith) ∙ sym (one-mul (2 ^ low f)) }
     where
       go : (b : Bool) → leb (suc k) (low f) ≡ b → suc k ≤ low f
-      go true e = leb→le (suc k) (low f) (subst T (sym e) tt)
+      go true e = leb→le (suc k) (low f) (to-T e)
       go false e = absurd (lt-irrefl (2 ^ low f) (lt-of-lt-of-le (pow-lt (leb-false (suc k) (low f) e)) h))
 
   module _ (s : Bool) where
@@ -80,17 +81,14 @@ module _ (f : Format) where
         round-exact f s (0 * up e) (down e) 0 0 (down-pos e) (pow-pos (prec f)) (pow-pos (low f + suc (emax f)))
         (ap (λ (n : ℕ). n * 2 ^ low f) (zero-mul (up e)) ∙ zero-mul (2 ^ low f) ∙ sym (zero-mul (down e)))
     exact (suc m) e h =
-        let A = eqb (suc m % 2) 1 in
-        let B = ltb (suc m) (2 ^ prec f) in
-        let C = leb (down e) (2 ^ low f) in
-        let D = ltb (suc m * up e) (2 ^ suc (emax f) * down e) in
-        let p = power e (leb→le (down e) (2 ^ low f) (and-r (A && B) C (and-l (A && B && C) D h))) in
+        let held = four-of (eqb (suc m % 2) 1) (ltb (suc m) (2 ^ prec f)) (leb (down e) (2 ^ low f)) (ltb (suc m * up e) (2 ^ suc (emax f) * down e)) h in
+        let p = power e (leb→le (down e) (2 ^ low f) (held .three)) in
         let is : suc m * up e * 2 ^ low f ≡ suc m * 2 ^ (p .j) * down e = mul-assoc (suc m) (up e) (2 ^ low f) ∙ ap (λ (n : ℕ). suc m * n) (sym (p .is)) ∙ sym (mul-assoc (suc m) (2 ^ (p .j)) (down e)) in
-        let below : suc m * up e * 2 ^ low f < 2 ^ suc (emax f) * down e * 2 ^ low f = mul-lt-mul-of-pos-right (ltb→lt (suc m * up e) (2 ^ suc (emax f) * down e) (and-r (A && B && C) D h)) (pow-pos (low f)) in
+        let below : suc m * up e * 2 ^ low f < 2 ^ suc (emax f) * down e * 2 ^ low f = mul-lt-mul-of-pos-right (ltb→lt (suc m * up e) (2 ^ suc (emax f) * down e) (held .four)) (pow-pos (low f)) in
         let under : 2 ^ suc (emax f) * down e * 2 ^ low f ≡ 2 ^ (low f + suc (emax f)) * down e =
         mul-right-comm (2 ^ suc (emax f)) (down e) (2 ^ low f) ∙ ap (λ (n : ℕ). n * down e) (mul-comm (2 ^ suc (emax f)) (2 ^ low f) ∙ sym (pow-add 2 (low f) (suc (emax f)))) in
         round-exact f s (suc m * up e) (down e) (suc m) (p .j) (down-pos e)
-        (ltb→lt (suc m) (2 ^ prec f) (and-r A B (and-l (A && B) C (and-l (A && B && C) D h))))
+        (ltb→lt (suc m) (2 ^ prec f) (held .two))
         (lt-of-mul-lt-mul-right (down e) (subst (λ (n : ℕ). n < 2 ^ (low f + suc (emax f)) * down e) is (subst (λ (n : ℕ). suc m * up e * 2 ^ low f < n) under below)))
         is
 

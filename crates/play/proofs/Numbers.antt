@@ -1,54 +1,26 @@
--- The player's number, what is printed by it, and the site that is run.
-use Prim.Native.Nat.{ℕ, suc, _≤_, _<_}
+-- What is printed by the player's number, and the site that is run.
+use Prim.Native.Nat.{ℕ, suc, _≤_}
 use mathlib.Core.Path.{_≡_, sym, ap, ap₂, _∙_}
-use mathlib.Core.Bool.{Bool, true, false, cond, _&&_}
+use mathlib.Core.Bool.{true}
 use mathlib.Core.List.{List}
 use native.Mathlib.Nat.{mul-le-mul}
 use native.Mathlib.Omega.{arith}
 use lib.Dec.{leb, leb→le}
 use lib.IntN.{ℤ}
 use lib.ListN.{length}
-use borrow.Author.Tests.{le-leb, lt-leb}
 use Rattle.rules.specs.declared.Card.{Card}
-use Rattle.rules.specs.Site.{cells, stateLength, checkWith, firstRefusal}
+use Rattle.rules.specs.Site.{cells, stateLength, checkWith}
 use Rattle.rules.specs.Run.{run, runAfter}
 use Rattle.rules.specs.Sheet.{cardIn, groundIn, stateIn, readNumber, noCard}
 use Rattle.rules.specs.Calls.{runOutcome, readAnswer, readGroundList, readStateList}
 use Rattle.rules.specs.Play.{refusedLine, playedText, played, ownNumber, playNumber, printed}
 use Rattle.laws.specs.Tests.{to-T, and-left, and-right}
 use Rattle.laws.specs.Facts.{check-own}
-use Rattle.laws.specs.Outcomes.{first-refused, first-passed, both-passed, if-done, if-refused}
+use Rattle.laws.specs.Outcomes.{both-passed, if-done, if-refused}
 use Rattle.laws.specs.Sheets.{Read, passed, read-facts, length-state-in}
-
--- columns and rows do not exceed 32
-abbrev pub small : Card → Bool
-small c = leb (c .columns) 32 && leb (c .rows) 32
+use Rattle.play_number.proofs.Numbers.{small}
 
 module _ (l : List ℕ) where
-  -- ---- the number, as the code comes to it
-
-  pub number-long : 16659 < length l → 8 ≡ playNumber l
-  unfolding playNumber
-  number-long h = rw (lt-leb _ _ h)
-
-  module _ (h : length l ≤ 16659) where
-    looked : playNumber l ≡ firstRefusal (ownNumber l) (cond (small (cardIn l)) 0 8)
-    unfolding playNumber
-    looked = rw (le-leb _ _ h)
-
-    pub number-own : (ownNumber l ≡ 0 → ⊥) → ownNumber l ≡ playNumber l
-    number-own n = sym (looked ∙ first-refused (ownNumber l) _ n)
-
-    module _ (e : ownNumber l ≡ 0) where
-      rest : playNumber l ≡ cond (small (cardIn l)) 0 8
-      rest = looked ∙ first-passed (ownNumber l) _ e
-
-      pub number-small : small (cardIn l) ≡ true → 0 ≡ playNumber l
-      number-small t = sym (rest ∙ ap (λ (b : Bool). cond b 0 8) t)
-
-      pub number-large : small (cardIn l) ≡ false → 8 ≡ playNumber l
-      number-large t = sym (rest ∙ ap (λ (b : Bool). cond b 0 8) t)
-
   -- ---- what is printed by it
 
   pub printed-refused : (playNumber l ≡ 0 → ⊥) → refusedLine (playNumber l) ≡ printed l

@@ -3,29 +3,12 @@ ghost use mathlib.Core.Path.{_≡_};
 ghost use Prim.Native.Nat.{_≤_};
 ghost use lib.ListN.{length};
 ghost use Rattle.rules.specs.Calls.{runOutcome};
-ghost use Rattle.rules.specs.Play.{playNumber, playedText, played, printed};
+ghost use Rattle.rules.specs.Play.{playedText, played, printed};
 ghost use Rattle.put.specs.Put.{Put};
-ghost use Rattle.print.specs.Appended.{Appended, Rows};
+ghost use Rattle.print.specs.Appended.{Appended};
+ghost use Rattle.rows.specs.Rows.{Rows};
 ghost use Rattle.play.specs.Lent.{Cut, Uncut};
 use rules::Card;
-
-// The number that an input is refused with, and 0 where it is a sheet to be run.
-fn play_number(input: &[u8]) -> u32
-    ensures { λ r. ⌜ r ≡ playNumber (now (input .entry)) ⌝ }
-{
-    if 16659 < input.len() {
-        return 8;
-    }
-    let own = sheet_reader::own_number(input);
-    if own != 0 {
-        return own;
-    }
-    let card = sheet::card_in(input);
-    if (card.columns <= 32) & (card.rows <= 32) {
-        return 0;
-    }
-    8
-}
 
 // Runs a site and prints its tally and its rows.
 fn print_run(
@@ -40,7 +23,7 @@ fn print_run(
 {
     let tally = run::run(card, ground, state, scratch);
     let end = print::tally_line(tally, page);
-    print::row_lines(card, state, page, end)
+    rows::row_lines(card, state, page, end)
 }
 
 // The same for the site of a sheet, over lists that are cut to the header's size.
@@ -108,7 +91,7 @@ fn print_input(input: &[u8], page: &mut [u8]) -> usize
     requires { ⌜ length (now page) ≡ 9298 ⌝ }
     ensures { λ r. ⌜ Appended (printed (now (input .entry))) 0 r (now (page .entry)) (now (page .exit)) ⌝ }
 {
-    let number = play_number(input);
+    let number = play_number::play_number(input);
     if number != 0 {
         return print::refused_line(number, page);
     }

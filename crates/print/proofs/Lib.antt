@@ -1,4 +1,3 @@
 pub mod Laws
 pub mod Lengths
-pub mod Loops
 pub mod Sizes

@@ -22,6 +22,7 @@ fn run_in(
     tally
 }
 
+// A run over a short tide, which holds any site of at most 32×32 cells.
 fn small_run(card: Card, ground: &[i32], state: &mut [i32], scratch: &mut [i32]) -> Tally
     requires { ⌜ Small card (now ground) (now state) (now scratch) ⌝ }
     ensures { λ r. ⌜ RunContract card (now (ground .entry)) (now (state .entry)) (now (scratch .entry)) r (now (state .exit)) (now (scratch .exit)) ⌝ }
@@ -30,6 +31,7 @@ fn small_run(card: Card, ground: &[i32], state: &mut [i32], scratch: &mut [i32])
     run_in(card, ground, state, scratch, &mut tide)
 }
 
+// A run over a tide that holds any site.
 fn large_run(card: Card, ground: &[i32], state: &mut [i32], scratch: &mut [i32]) -> Tally
     requires { ⌜ SoundWith card (now ground) (now state) (now scratch) ⌝ }
     ensures { λ r. ⌜ RunContract card (now (ground .entry)) (now (state .entry)) (now (scratch .entry)) r (now (state .exit)) (now (scratch .exit)) ⌝ }

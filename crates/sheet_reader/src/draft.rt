@@ -37,7 +37,7 @@ fn read_words(sheet: &[u8], n: usize, words: &mut [i32]) -> bool
     ensures fits { λ r. ⌜ r ≡ sheetValuesFit (now (sheet .entry)) ⌝ }
     ensures words { λ _. ⌜ now (words .exit) ≡ groundIn (now (sheet .entry)) ++ stateIn (now (sheet .entry)) ⌝ }
 {
-    numbers::get_words(sheet, 19, words);
+    words::get_words(sheet, 19, words);
     let card = sheet::card_in(sheet);
     words_fit(card, words, n)
 }

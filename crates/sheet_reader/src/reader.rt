@@ -49,6 +49,7 @@ fn read_over(sheet: &[u8], ground: &mut [i32], state: &mut [i32], draft: &mut [i
     Heard { number, card }
 }
 
+// The reader over a short draft, which holds any site of at most 32×32 cells.
 fn read_small(sheet: &[u8], ground: &mut [i32], state: &mut [i32]) -> Heard
     requires { ⌜ Small (now sheet) (length (now ground)) (length (now state)) ⌝ }
     ensures { λ r. ⌜ ReadContract (now (sheet .entry)) (now (ground .entry)) (now (state .entry)) r (now (ground .exit)) (now (state .exit)) ⌝ }
@@ -57,6 +58,7 @@ fn read_small(sheet: &[u8], ground: &mut [i32], state: &mut [i32]) -> Heard
     read_over(sheet, ground, state, &mut words)
 }
 
+// The reader over a draft that holds any site.
 fn read_large(sheet: &[u8], ground: &mut [i32], state: &mut [i32]) -> Heard
     requires { ⌜ frontNumber (now sheet) (length (now ground)) (length (now state)) ≡ 0 ⌝ }
     ensures { λ r. ⌜ ReadContract (now (sheet .entry)) (now (ground .entry)) (now (state .entry)) r (now (ground .exit)) (now (state .exit)) ⌝ }

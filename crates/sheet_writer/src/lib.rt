@@ -47,8 +47,8 @@ pub fn write_sheet(card: Card, ground: &[i32], state: &[i32], bytes: &mut [u8]) 
         return Wrote { number, size: 0 };
     }
     put_header(card, bytes);
-    numbers::put_words(bytes, 19, ground);
-    numbers::put_words(bytes, 19 + 4 * ground.len(), state);
+    words::put_words(bytes, 19, ground);
+    words::put_words(bytes, 19 + 4 * ground.len(), state);
     let size = sheet::sheet_size(card) as u32;
     Wrote { number: 0, size }
 }

@@ -22,6 +22,7 @@ fn step_by_draft(
     number
 }
 
+// A step on short lists, which hold any site of at most 32×32 cells.
 fn small_step(card: Card, ground: &[i32], state: &[i32], next: &mut [i32]) -> u32
     requires { ⌜ Small card (now ground) (now state) (now next) ⌝ }
     ensures { λ r. ⌜ StepContract card (now (ground .entry)) (now (state .entry)) (now (next .entry)) r (now (next .exit)) ⌝ }
@@ -31,6 +32,7 @@ fn small_step(card: Card, ground: &[i32], state: &[i32], next: &mut [i32]) -> u3
     step_by_draft(card, ground, state, &mut tide, &mut draft, next)
 }
 
+// A step on lists that hold any site.
 fn large_step(card: Card, ground: &[i32], state: &[i32], next: &mut [i32]) -> u32
     requires { ⌜ SoundWith card (now ground) (now state) (now next) ⌝ }
     ensures { λ r. ⌜ StepContract card (now (ground .entry)) (now (state .entry)) (now (next .entry)) r (now (next .exit)) ⌝ }
