@@ -28,17 +28,17 @@ pub fn high(card: Card, east: bool) -> usize
     rows + 1
 }
 
-// Where it starts in a state.
+// Where it starts in a state: behind the heights, and behind the eastward faces. All but the choice is the same both ways, so that the compiler works it out
+// once for all the words around a face.
 pub fn first(card: Card, east: bool) -> usize
     requires { ⌜ Ranges card ⌝ }
     ensures { λ r. ⌜ r ≡ Ways.first card east ⌝ }
 {
     let columns = card.columns as usize;
     let rows = card.rows as usize;
-    if east {
-        return rows * columns;
-    }
-    rows * columns + rows * (columns + 1)
+    let eastward = rows * (columns + 1);
+    let skipped = if east { 0 } else { eastward };
+    rows * columns + skipped
 }
 
 // The side of a cell that crosses these faces.
