@@ -1,5 +1,5 @@
 -- A pass that fills a lent list with a field and tests each value, left at the first that fails: what each loop keeps, and one law for each need.
-use mathlib.Core.Path.{_≡_, _∙_, sym, ap}
+use mathlib.Core.Path.{_≡_, _∙_, sym, ap, subst}
 use mathlib.Core.Bool.{Bool, true, false, _&&_, false≢true}
 use mathlib.Core.List.{List}
 use Prim.Native.Nat.{ℕ, _+_, _*_, _≤_, _<_}
@@ -56,3 +56,7 @@ first-left {a} b h e = record { every-one = ap (λ (x : Bool). x && b) (sym e �
 pub both-filled : {a b fits more : Bool} {xs ys first last lent whole : List ℤ} → Filled a xs fits first → fits ≡ true → Filled b ys more last
     → (first ≡ xs → last ≡ ys → lent ≡ whole) → Filled (a && b) whole more lent
 both-filled {a} {b} h e k join = record { every-one = k .every-one ∙ ap (λ (x : Bool). x && b) (sym e ∙ h .every-one); is = λ t. join (h .is e) (k .is t) }
+
+-- the same, told by an equal answer
+pub filled-told : {a fits told : Bool} {xs lent : List ℤ} → Filled a xs fits lent → told ≡ fits → Filled a xs told lent
+filled-told {a} {xs = xs} {lent} h e = subst (λ (b : Bool). Filled a xs b lent) (sym e) h

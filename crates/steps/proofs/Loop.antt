@@ -53,19 +53,19 @@ begins c g s h e p = record {
 module _ {c : Card} {g s₀ s : List ℤ} {t : Tally} {done : ℕ} (r : Running c g s₀ s t done) where
   -- a step that is taken: its number k, and what it made
   module _ (l : done < c .steps) (k : ℕ) {made : List ℤ} (a : Advanced c g s k made) where
-    pub stops : (k ≡ 0 → ⊥) → Ended (runAll c g s₀) (record { steps = t .steps; reason = k; top = t .top }) s
+    pub stops : (k ≡ 0 → ⊥) → (n : ℕ) → n ≡ t .steps → Ended (runAll c g s₀) (record { steps = n; reason = k; top = t .top }) s
     unfolding stoppedFor
-    stops h =
+    stops h n e =
         let o = leads-nowhere (r .leads) l k (pos-of-ne-zero h) (sym (a .number)) in
-        record { tallied = ap (λ (x : Outcome). x .tally) o; left = ap (λ (x : Outcome). x .state) o }
+        record { tallied = (λ i. record { steps = e i; reason = k; top = t .top }) ∙ ap (λ (x : Outcome). x .tally) o; left = ap (λ (x : Outcome). x .state) o }
 
     -- the state renewed by it, and the tally with the new state's greatest height
-    pub goes-on : k ≡ 0 → length made ≡ stateLength c → {s′ : List ℤ} → s′ ≡ renewed k made s → (h : ℤ) → h ≡ peak c s′ → (t′ : Tally) → t′ ≡ accepted t h → Running c g s₀ s′ t′ (done + 1)
+    pub goes-on : k ≡ 0 → length made ≡ stateLength c → {s′ : List ℤ} (j : ℕ) → s′ ≡ renewed j made s → j ≡ 0 → (h : ℤ) → h ≡ peak c s′ → (t′ : Tally) → t′ ≡ accepted t h → Running c g s₀ s′ t′ (done + 1)
     unfolding accepted renewed
-    goes-on z long {s′} is h top t′ taken =
+    goes-on z long {s′} j is y h top t′ taken =
         let e : stepNumber c g s ≡ 0 = sym (a .number) ∙ z in
         let whole : take (length s) made ≡ made = take-all (length s) made (omega (arith, r .long)) in
-        let new : s′ ≡ nextState c g s = is ∙ if-done k (take (length s) made) s z ∙ whole ∙ a .state z in
+        let new : s′ ≡ nextState c g s = is ∙ if-done j (take (length s) made) s y ∙ whole ∙ a .state z in
         let kept : Sound c g s′ = subst (λ (x : List ℤ). Sound c g x) (sym new) (keeps-sound c g s (r .sound) e) in
         let p : t′ ≡ accepted t (peak c (nextState c g s)) = taken ∙ ap (accepted t) (top ∙ ap (peak c) new) in
         record {

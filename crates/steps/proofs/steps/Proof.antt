@@ -70,15 +70,18 @@ same-length-3 c = search needs
 returns : tie.Need-returns Inv-loop μ-loop
 returns c =
     let d = refused c in
-    stops (entered d .before .loop .inv .0) (entered d .loop-test .taken) _ (d .advance .ensures) (λ z. omega arith)
+    stops (entered d .before .loop .inv .0) (entered d .loop-test .taken) _ (d .advance .ensures) (λ z. omega arith) _ (omega (arith, entered d .before .loop .inv .0 .counted))
 
 renew-requires : tie.Need-renew-requires Inv-loop μ-loop
 renew-requires c κs = search needs
 
+-- the state holds the heights, and so would any list of its length
 greatest-requires-2 : tie.Need-greatest-requires-2 Inv-loop μ-loop
 greatest-requires-2 c κs =
     let d = stepped c .before in
-    omega (arith, counted (d .before) .cells .ensures .0, cells-held _ _ _ (d .loop .inv .0 .sound), renewed c .renew .kept .0)
+    let i = d .loop .inv in
+    let tide-kept : length (accepted (passed (renewed c)) .advance .last .1 .1 .1 .0) ≡ stateLength (d .before .before .before .before .args .card) = accepted (passed (renewed c)) .advance .kept .1 .1 .1 .0 ∙ i .2 in
+    omega (arith, counted (d .before) .cells .ensures .0, cells-held _ _ _ (i .0 .sound), i .0 .long, tide-kept, renewed c .renew .kept .0)
 
 accept-requires : tie.Need-accept-requires Inv-loop μ-loop
 accept-requires c κs =
@@ -102,7 +105,7 @@ loop-again c =
     let d = stepped (c .before .before) in
     let i = d .before .loop .inv in
     let scratch-long = step .kept .1 .1 .1 .1 .0 ∙ i .1 in (
-      goes-on (i .0) (d .loop-test .taken) _ (step .ensures) (passed new .if1 .left) scratch-long (new .renew .ensures) _
+      goes-on (i .0) (d .loop-test .taken) _ (step .ensures) (passed new .if1 .left) scratch-long _ (new .renew .ensures) (search needs) _
           (toZ-ofZ (record { sfits = top .ok }) ∙ peak-is _ _ _ (counted (d .before .before) .cells .ensures .0) (top .ensures))
           _
           (c .accept .ensures),

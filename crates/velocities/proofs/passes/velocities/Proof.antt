@@ -1,6 +1,7 @@
 -- `velocities::passes::velocities` meets its contract.
 use Prim.Native.Nat.{suc, _+_, _*_, _≤_}
 use mathlib.Core.Path.{_≡_, _∙_, sym}
+use mathlib.Core.Bool.{or-false}
 use native.Mathlib.Omega.{arith}
 use borrow.Author.Needs.{needs}
 use borrow.Author.Tests.{not-true, not-false}
@@ -9,7 +10,7 @@ use lib.Seq.{length-take-le}
 use Rattle.rules.specs.Step.{newVelocitiesFit}
 use Rattle.laws.specs.Grids.{length-grid}
 use Rattle.laws.specs.Parts.{two-parts, length-part}
-use Rattle.laws.specs.Tested.{first-left, both-filled}
+use Rattle.laws.specs.Tested.{first-left, both-filled, filled-told}
 use Rattle.layout.specs.Ways.{wide, high}
 use Rattle.velocities.specs.Velocities.{newSpeeds, nextVelocities}
 use Rattle.velocities.proofs.passes.velocities.Statement.{statement}
@@ -83,7 +84,7 @@ returns-2 c =
     let d = passed (c .before) in
     let card = start (eastward d) .args .card in
     let long : card .rows * suc (card .columns) ≡ card .rows * (card .columns + 1) = omega arith in
-    both-filled (eastward d .pass .ensures) (not-false _ (d .if1 .left)) (c .before .pass2 .ensures)
+    both-filled (eastward d .pass .ensures) (not-false _ (d .if1 .left)) (filled-told (c .before .pass2 .ensures) (search (or-false, needs)))
     (λ first last. two-parts _ _ first last (length-grid _ _ _ ∙ long))
 
 pub velocities-spec : {M : Type 1} → statement M
