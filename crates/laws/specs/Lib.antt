@@ -39,6 +39,6 @@ pub mod Rising
 pub mod Asked
 pub mod Fronts
 pub mod Listings
-pub mod Signs
+pub mod SignTests
 pub mod Swapped
 pub mod Floats

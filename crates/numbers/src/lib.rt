@@ -6,7 +6,7 @@ ghost use Rattle.rules.specs.Sheet.{numberIn, bytesOf};
 ghost use Rattle.laws.specs.Laid.{laid};
 ghost use Rattle.numbers.specs.Asked.{Field};
 
-pub fn wide(x: u8) -> u32
+pub fn widened(x: u8) -> u32
     ensures { λ r. ⌜ r ≡ x ⌝ }
 {
     x as u32
@@ -19,7 +19,7 @@ pub fn number(s: &[u8], at: usize, k: usize) -> u32
 {
     let mut n = 0u32;
     for i in 0..k {
-        n = n * 256 + wide(s[at + i]);
+        n = n * 256 + widened(s[at + i]);
     }
     n
 }

@@ -103,7 +103,8 @@ firstOf true false v = 2
 firstOf true true false = 3
 firstOf true true true = 0
 
--- the first three checks of a card, a ground and a state; `one`, `two` and `three` are what a call asks besides for 1, for 2 and for 3, `true` for nothing
+-- the first three checks of a card, a ground and a state; `one`, `two` and `three` are what a call asks besides for 1, for 2 and for 3, `true` for nothing.
+-- (No call of document 01 asks anything besides for 1.)
 unfoldable pub checkAlso : (one two three : Bool) → Card → (ground state : List ℤ) → ℕ
 checkAlso one two three c g s = firstOf (one && cardFits c) (two && lengthsFit c g s) (three && valuesFit c (readGround c g) (readState c s))
 

@@ -78,7 +78,7 @@ eastFace c g w i j = record {
   newL = newHeight c w (suc i) j;
   groundK = g i j;
   groundL = g (suc i) j;
-  -- the face itself, the next ones east and west; a wall gives 0
+  -- the face itself; the next ones east and west, of which a wall gives 0
   own = eastTransfer c w (suc i) j;
   ahead = eastTransfer c w (suc (suc i)) j;
   behind = eastTransfer c w i j;
@@ -87,7 +87,7 @@ eastFace c g w i j = record {
   aboveL = northTransfer c w (suc i) (suc j);
   belowK = northTransfer c w i j;
   belowL = northTransfer c w (suc i) j;
-  -- the face itself, the next ones east and west; a wall gives 0, by the third check
+  -- the face itself; the next ones east and west, of which a wall gives 0, by the third check
   u = w .east (suc i) j;
   uAhead = w .east (suc (suc i)) j;
   uBehind = w .east i j;
@@ -105,7 +105,7 @@ northFace c g w i j = record {
   newL = newHeight c w i (suc j);
   groundK = g i j;
   groundL = g i (suc j);
-  -- the face itself, the next ones north and south; a wall gives 0
+  -- the face itself; the next ones north and south, of which a wall gives 0
   own = northTransfer c w i (suc j);
   ahead = northTransfer c w i (suc (suc j));
   behind = northTransfer c w i j;
@@ -114,7 +114,7 @@ northFace c g w i j = record {
   aboveL = eastTransfer c w (suc i) (suc j);
   belowK = eastTransfer c w i j;
   belowL = eastTransfer c w i (suc j);
-  -- the face itself, the next ones north and south; a wall gives 0, by the third check
+  -- the face itself; the next ones north and south, of which a wall gives 0, by the third check
   u = w .north i (suc j);
   uAhead = w .north i (suc (suc j));
   uBehind = w .north i j;

@@ -13,7 +13,7 @@ use lib.ListN.{length, drop}
 use lib.Dec.{T}
 use borrow.Author.Tests.{ltb-true, lt-ltb, le-ltb, le-leb, lt-leb, eq-eqb, ne-eqb}
 use Rattle.rules.specs.Text.{decimal, heightText, depthText, fitted, dry, underOne, cm}
-use Rattle.laws.specs.Signs.{not-under}
+use Rattle.laws.specs.SignTests.{not-under}
 use Rattle.rules.specs.Calls.{textPart, textScratch}
 use Rattle.put.specs.Put.{Put}
 

@@ -19,10 +19,10 @@ fn word(s: &[u8], at: usize) -> u32
     requires { ⌜ at + 4 ≤ length (now s) ⌝ }
     ensures { λ r. ⌜ r ≡ numberIn 4 (drop at (now (s .entry))) ⌝ }
 {
-    let first = numbers::wide(s[at]);
-    let second = numbers::wide(s[at + 1]);
-    let third = numbers::wide(s[at + 2]);
-    let fourth = numbers::wide(s[at + 3]);
+    let first = numbers::widened(s[at]);
+    let second = numbers::widened(s[at + 1]);
+    let third = numbers::widened(s[at + 2]);
+    let fourth = numbers::widened(s[at + 3]);
     swapped(first + second * 256 + third * 65536 + fourth * 16777216)
 }
 

@@ -4,7 +4,7 @@ use mir.Syntax.{w32}
 use lib.IntN.{natAbs}
 use Rattle.laws.specs.Numbers.{abs-neg}
 use Rattle.laws.specs.Exact.{Node, fits, value, int, neg, unsigned}
-use Rattle.laws.specs.Signs.{turned-up, not-under}
+use Rattle.laws.specs.SignTests.{turned-up, not-under}
 use Rattle.face.proofs.size.Statement.{statement}
 use Rattle.face.proofs.size.Tie as tie
 

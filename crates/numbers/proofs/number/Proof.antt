@@ -25,21 +25,21 @@ mul-n c =
     let f = fits-more (l .i) (l .n) h (l .inv .1) 0 (omega arith) in
     omega arith
 
-add-wide : tie.Need-add-wide Inv-loop μ-loop
-add-wide c = omega arith
+add-widened : tie.Need-add-widened Inv-loop μ-loop
+add-widened c = omega arith
 
-shared-slice-read-wide : tie.Need-shared-slice-read-wide Inv-loop μ-loop
-shared-slice-read-wide c = omega arith
+shared-slice-read-widened : tie.Need-shared-slice-read-widened Inv-loop μ-loop
+shared-slice-read-widened c = omega arith
 
-wide-requires : tie.Need-wide-requires Inv-loop μ-loop
-wide-requires c κs = tt
+widened-requires : tie.Need-widened-requires Inv-loop μ-loop
+widened-requires c κs = tt
 
 add-n : tie.Need-add-n Inv-loop μ-loop
 add-n c =
     let l = c .before .before .before in
     let h : l .loop .i < 4 = omega arith in
-    let b = rw (← (c .wide .ensures)) at (c .before .shared-slice-known2 .given (l .before .before .args .at + l .loop .i)) .fits in
-    let f = fits-more (l .loop .i) (l .loop .n) h (l .loop .inv .1) (c .wide .result) b in
+    let b = rw (← (c .widened .ensures)) at (c .before .shared-slice-known2 .given (l .before .before .args .at + l .loop .i)) .fits in
+    let f = fits-more (l .loop .i) (l .loop .n) h (l .loop .inv .1) (c .widened .result) b in
     omega arith
 
 add-i : tie.Need-add-i Inv-loop μ-loop
@@ -52,8 +52,8 @@ loop-again : tie.Need-loop-again Inv-loop μ-loop
 loop-again c =
     let l = c .before .before .before in
     let a = l .before .before .args in
-    let b = rw (← (c .wide .ensures)) at (c .before .shared-slice-known2 .given (a .at + l .loop .i)) .fits in
-    (omega arith, below-more (l .loop .i) (l .loop .n) (c .wide .result) (l .loop .inv .1) b, number-turn (a .s .now) (a .at) (l .loop .i) (l .loop .n) (c .wide .result) (l .loop .inv .2) (c .wide .ensures))
+    let b = rw (← (c .widened .ensures)) at (c .before .shared-slice-known2 .given (a .at + l .loop .i)) .fits in
+    (omega arith, below-more (l .loop .i) (l .loop .n) (c .widened .result) (l .loop .inv .1) b, number-turn (a .s .now) (a .at) (l .loop .i) (l .loop .n) (c .widened .result) (l .loop .inv .2) (c .widened .ensures))
 
 returns : tie.Need-returns Inv-loop μ-loop
 returns c =
@@ -70,9 +70,9 @@ number-spec =
     μ-loop
     loop-holds
     mul-n
-    add-wide
-    shared-slice-read-wide
-    wide-requires
+    add-widened
+    shared-slice-read-widened
+    widened-requires
     add-n
     add-i
     loop-less

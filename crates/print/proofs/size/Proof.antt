@@ -3,7 +3,7 @@ use mir.Syntax.{w64}
 use lib.IntN.{natAbs}
 use Rattle.laws.specs.Numbers.{abs-neg}
 use Rattle.laws.specs.Exact.{Node, fits, value, neg}
-use Rattle.laws.specs.Signs.{turned-up, not-under}
+use Rattle.laws.specs.SignTests.{turned-up, not-under}
 use Rattle.print.proofs.Sizes.{widened, narrowed}
 use Rattle.print.proofs.size.Statement.{statement}
 use Rattle.print.proofs.size.Tie as tie

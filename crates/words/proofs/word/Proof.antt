@@ -16,50 +16,50 @@ use Rattle.words.proofs.word.Tie as tie
 byte : (x y : ℕ) → x ≡ y → Fits w8 y → x < 256
 byte x y e f = subst⁻¹ (λ (n : ℕ). n < 256) e (f .fits)
 
-one : (c : tie.After-wide4) → c .before .before .before .before .before .before .wide .result < 256
-one c = let w = c .before .before .before .before .before .before in byte _ _ (w .wide .ensures) (w .before .shared-slice-known2 .given _)
+one : (c : tie.After-widened4) → c .before .before .before .before .before .before .widened .result < 256
+one c = let w = c .before .before .before .before .before .before in byte _ _ (w .widened .ensures) (w .before .shared-slice-known2 .given _)
 
-two : (c : tie.After-wide4) → c .before .before .before .before .wide2 .result < 256
-two c = let w = c .before .before .before .before in byte _ _ (w .wide2 .ensures) (w .before .shared-slice-known3 .given _)
+two : (c : tie.After-widened4) → c .before .before .before .before .widened2 .result < 256
+two c = let w = c .before .before .before .before in byte _ _ (w .widened2 .ensures) (w .before .shared-slice-known3 .given _)
 
-three : (c : tie.After-wide4) → c .before .before .wide3 .result < 256
-three c = let w = c .before .before in byte _ _ (w .wide3 .ensures) (w .before .shared-slice-known4 .given _)
+three : (c : tie.After-widened4) → c .before .before .widened3 .result < 256
+three c = let w = c .before .before in byte _ _ (w .widened3 .ensures) (w .before .shared-slice-known4 .given _)
 
-four : (c : tie.After-wide4) → c .wide4 .result < 256
-four c = byte _ _ (c .wide4 .ensures) (c .before .shared-slice-known5 .given _)
+four : (c : tie.After-widened4) → c .widened4 .result < 256
+four c = byte _ _ (c .widened4 .ensures) (c .before .shared-slice-known5 .given _)
 
-shared-slice-read-wide : tie.Need-shared-slice-read-wide
-shared-slice-read-wide c = search needs
+shared-slice-read-widened : tie.Need-shared-slice-read-widened
+shared-slice-read-widened c = search needs
 
-wide-requires : tie.Need-wide-requires
-wide-requires c κs = search needs
+widened-requires : tie.Need-widened-requires
+widened-requires c κs = search needs
 
-add-wide : tie.Need-add-wide
-add-wide c = search needs
+add-widened : tie.Need-add-widened
+add-widened c = search needs
 
-shared-slice-read-wide-2 : tie.Need-shared-slice-read-wide-2
-shared-slice-read-wide-2 c = search needs
+shared-slice-read-widened-2 : tie.Need-shared-slice-read-widened-2
+shared-slice-read-widened-2 c = search needs
 
-wide-requires-2 : tie.Need-wide-requires-2
-wide-requires-2 c κs = search needs
+widened-requires-2 : tie.Need-widened-requires-2
+widened-requires-2 c κs = search needs
 
-add-wide-2 : tie.Need-add-wide-2
-add-wide-2 c = search needs
+add-widened-2 : tie.Need-add-widened-2
+add-widened-2 c = search needs
 
-shared-slice-read-wide-3 : tie.Need-shared-slice-read-wide-3
-shared-slice-read-wide-3 c = search needs
+shared-slice-read-widened-3 : tie.Need-shared-slice-read-widened-3
+shared-slice-read-widened-3 c = search needs
 
-wide-requires-3 : tie.Need-wide-requires-3
-wide-requires-3 c κs = search needs
+widened-requires-3 : tie.Need-widened-requires-3
+widened-requires-3 c κs = search needs
 
-add-wide-3 : tie.Need-add-wide-3
-add-wide-3 c = search needs
+add-widened-3 : tie.Need-add-widened-3
+add-widened-3 c = search needs
 
-shared-slice-read-wide-4 : tie.Need-shared-slice-read-wide-4
-shared-slice-read-wide-4 c = search needs
+shared-slice-read-widened-4 : tie.Need-shared-slice-read-widened-4
+shared-slice-read-widened-4 c = search needs
 
-wide-requires-4 : tie.Need-wide-requires-4
-wide-requires-4 c κs = search needs
+widened-requires-4 : tie.Need-widened-requires-4
+widened-requires-4 c κs = search needs
 
 mul-swapped : tie.Need-mul-swapped
 mul-swapped c = omega (arith, two c)
@@ -90,27 +90,27 @@ returns c =
     let w₁ = w₂ .before .before in
     let a = w₁ .before .before .before .args in
     let l = a .s .now in
-    let first : w₁ .wide .result ≡ getD (drop (a .at) l) 0 0 = w₁ .wide .ensures ∙ ap (λ (i : ℕ). getD l i 0) (sym (add-zero (a .at))) ∙ sym (getD-drop (a .at) l 0 0) in
-    let second : w₂ .wide2 .result ≡ getD (drop (a .at) l) 1 0 = w₂ .wide2 .ensures ∙ sym (getD-drop (a .at) l 1 0) in
-    let third : w₃ .wide3 .result ≡ getD (drop (a .at) l) 2 0 = w₃ .wide3 .ensures ∙ sym (getD-drop (a .at) l 2 0) in
-    let fourth : w₄ .wide4 .result ≡ getD (drop (a .at) l) 3 0 = w₄ .wide4 .ensures ∙ sym (getD-drop (a .at) l 3 0) in
+    let first : w₁ .widened .result ≡ getD (drop (a .at) l) 0 0 = w₁ .widened .ensures ∙ ap (λ (i : ℕ). getD l i 0) (sym (add-zero (a .at))) ∙ sym (getD-drop (a .at) l 0 0) in
+    let second : w₂ .widened2 .result ≡ getD (drop (a .at) l) 1 0 = w₂ .widened2 .ensures ∙ sym (getD-drop (a .at) l 1 0) in
+    let third : w₃ .widened3 .result ≡ getD (drop (a .at) l) 2 0 = w₃ .widened3 .ensures ∙ sym (getD-drop (a .at) l 2 0) in
+    let fourth : w₄ .widened4 .result ≡ getD (drop (a .at) l) 3 0 = w₄ .widened4 .ensures ∙ sym (getD-drop (a .at) l 3 0) in
     c .swapped .ensures ∙ number-swapped (drop (a .at) l) _ _ _ _ (one w₄) (two w₄) (three w₄) (four w₄) first second third fourth
 
 pub word-spec : {M : Type 1} → statement M
 word-spec =
     tie.close
     (tie.spec
-    shared-slice-read-wide
-    wide-requires
-    add-wide
-    shared-slice-read-wide-2
-    wide-requires-2
-    add-wide-2
-    shared-slice-read-wide-3
-    wide-requires-3
-    add-wide-3
-    shared-slice-read-wide-4
-    wide-requires-4
+    shared-slice-read-widened
+    widened-requires
+    add-widened
+    shared-slice-read-widened-2
+    widened-requires-2
+    add-widened-2
+    shared-slice-read-widened-3
+    widened-requires-3
+    add-widened-3
+    shared-slice-read-widened-4
+    widened-requires-4
     mul-swapped
     add-swapped
     mul-swapped-2

@@ -70,15 +70,15 @@ fn register(count: i64) -> Vec<Chamber> {
     (0..count).map(|k| Chamber { x: 8_000 * k, y: 7_000 * k }).collect()
 }
 
-pub fn search(site: Wild, count: i64) -> Call {
+pub fn search(site: Wild, count: i64, room: usize) -> Call {
     let chambers = register(count);
-    let mut found = vec![0; chambers.len()];
+    let mut found = vec![0; room];
     Box::new(move || calls::search(site.card, &site.ground, &site.state, &chambers, EVERYWHERE, 0, &mut found).map(drop))
 }
 
-pub fn search_lists(site: Wild, count: i64) -> Call {
+pub fn search_lists(site: Wild, count: i64, room: usize) -> Call {
     let (xs, ys): (Vec<i64>, Vec<i64>) = register(count).iter().map(|chamber| (chamber.x, chamber.y)).unzip();
-    let mut found = vec![0; xs.len()];
+    let mut found = vec![0; room];
     Box::new(move || calls::search_lists(site.card, &site.ground, &site.state, &xs, &ys, EVERYWHERE, 0, &mut found).map(drop))
 }
 
@@ -96,7 +96,12 @@ pub fn read(mut site: Wild) -> Call {
 }
 
 pub fn write(site: Wild) -> Call {
-    let mut bytes = vec![0; site.card.sheet_size()];
+    let size = site.card.sheet_size();
+    write_into(site, size)
+}
+
+pub fn write_into(site: Wild, room: usize) -> Call {
+    let mut bytes = vec![0; room];
     Box::new(move || calls::write_sheet(site.card, &site.ground, &site.state, &mut bytes).map(drop))
 }
 

@@ -59,6 +59,7 @@ fn step_takes_what_is_named() {
     holds("step, 32×32", named.small, Ok(()), || cases::step(cases::site(32)));
     holds("step, 8×8", named.small, Ok(()), || cases::step(cases::site(8)));
     holds("step, an empty card", named.refused, Err(Refusal::Card), || cases::step(cases::nothing()));
+    holds("step, a bad card", named.refused, Err(Refusal::Card), || cases::step(cases::no_time(128)));
     holds("step, lists too short", named.refused, Err(Refusal::Length), || cases::step(cases::short(128)));
     holds("step, a bad value", named.refused, Err(Refusal::Value), || cases::step(cases::bad(128)));
 }
@@ -71,6 +72,7 @@ fn run_takes_what_is_named() {
     holds("run, 32×32", named.small, Ok(()), || cases::run(cases::site(32)));
     holds("run, 8×8", named.small, Ok(()), || cases::run(cases::site(8)));
     holds("run, an empty card", named.refused, Err(Refusal::Card), || cases::run(cases::nothing()));
+    holds("run, a bad card", named.refused, Err(Refusal::Card), || cases::run(cases::no_time(128)));
     holds("run, lists too short", named.refused, Err(Refusal::Length), || cases::run(cases::short(128)));
     holds("run, a bad value", named.refused, Err(Refusal::Value), || cases::run(cases::bad(128)));
 }
@@ -90,13 +92,15 @@ fn read_sheet_takes_what_is_named() {
 
 #[test]
 fn searches_take_what_is_named() {
-    for (name, search) in [("water_search", cases::search as fn(_, _) -> Call), ("water_search_lists", cases::search_lists)] {
+    for (name, search) in [("water_search", cases::search as fn(_, _, _) -> Call), ("water_search_lists", cases::search_lists)] {
         let named = header(name);
-        holds(name, named.any, Ok(()), || search(cases::site(128), 1_000));
-        holds(name, named.small, Ok(()), || search(cases::site(8), 1_000));
-        holds(name, named.refused, Err(Refusal::Card), || search(cases::nothing(), 0));
-        holds(name, named.refused, Err(Refusal::Length), || search(cases::site(8), 1_001));
-        holds(name, named.refused, Err(Refusal::Value), || search(cases::bad(8), 1_000));
+        holds(name, named.any, Ok(()), || search(cases::site(128), 1_000, 1_000));
+        holds(name, named.small, Ok(()), || search(cases::site(8), 1_000, 1_000));
+        holds(name, named.small, Err(Refusal::Room { needed: 1_000 }), || search(cases::site(8), 1_000, 999));
+        holds(name, named.refused, Err(Refusal::Card), || search(cases::nothing(), 0, 0));
+        holds(name, named.refused, Err(Refusal::Card), || search(cases::no_time(8), 1_000, 1_000));
+        holds(name, named.refused, Err(Refusal::Length), || search(cases::site(8), 1_001, 1_001));
+        holds(name, named.refused, Err(Refusal::Value), || search(cases::bad(8), 1_000, 1_000));
     }
 }
 
@@ -105,6 +109,8 @@ fn write_sheet_takes_what_is_named() {
     let named = header("water_write_sheet");
     holds("write, 128×128", named.any, Ok(()), || cases::write(cases::site(128)));
     holds("write, 8×8", named.small, Ok(()), || cases::write(cases::site(8)));
+    holds("write, no room", named.small, Err(Refusal::Room { needed: 1_107 }), || cases::write_into(cases::site(8), 1_106));
+    holds("write, a bad card", named.refused, Err(Refusal::Card), || cases::write(cases::no_time(128)));
     holds("write, an empty card", named.refused, Err(Refusal::Card), || cases::write(cases::nothing()));
     holds("write, lists too short", named.refused, Err(Refusal::Length), || cases::write(cases::short(128)));
     holds("write, a bad value", named.refused, Err(Refusal::Value), || cases::write(cases::bad(128)));
