@@ -1,26 +1,25 @@
 -- A step that follows another under a map of states, as a turned site's step follows the site's: then so do its runs.
 use Prim.Native.Nat.{ℕ, zero, suc}
 use mathlib.Core.Path.{_≡_, sym, ap, _∙_}
-use mathlib.Core.List.{List}
 use lib.IntN.{ℤ}
 use Rattle.rules.specs.declared.Tally.{Tally}
-use Rattle.rules.specs.Run.{Stepping, Outcome, started, runOn, runFrom}
+use Rattle.rules.specs.Run.{SteppingOf, OutcomeOf, started, runOn, runFrom}
 use Rattle.laws.specs.Runs.{Keeps, further, finished, gone-on, stopped, by-step}
 
 -- from a mapped state the other step has the same number, the next state mapped, and the same greatest height; asked only of states that pass what
 -- an accepted step keeps. Where the map leaves every state as it is, the two steps agree.
-pub record Follows (Passes : List ℤ → Type 0) (map : List ℤ → List ℤ) (step other : Stepping) : Type 0 where
+pub record Follows {S : Type 0} (Passes : S → Type 0) (map : S → S) (step other : SteppingOf S) : Type 0 where
   pub kept : Keeps step Passes
-  pub numbers : (s : List ℤ) → Passes s → other .number (map s) ≡ step .number s
-  pub states : (s : List ℤ) → Passes s → step .number s ≡ 0 → other .next (map s) ≡ map (step .next s)
-  pub peaks : (s : List ℤ) → Passes s → other .peak (map s) ≡ step .peak s
+  pub numbers : (s : S) → Passes s → other .number (map s) ≡ step .number s
+  pub states : (s : S) → Passes s → step .number s ≡ 0 → other .next (map s) ≡ map (step .next s)
+  pub peaks : (s : S) → Passes s → other .peak (map s) ≡ step .peak s
 
 -- the same tally, and the end state mapped
-abbrev pub mapped : (List ℤ → List ℤ) → Outcome → Outcome
+abbrev pub mapped : {S : Type 0} → (S → S) → OutcomeOf S → OutcomeOf S
 mapped map o = record { tally = o .tally; state = map (o .state) }
 
-module _ {Passes : List ℤ → Type 0} {map : List ℤ → List ℤ} {step other : Stepping} (𝓕 : Follows Passes map step other) where
-  runs-on : (n : ℕ) (t : Tally) (s : List ℤ) → Passes s → runOn other n t (map s) ≡ mapped map (runOn step n t s)
+module _ {S : Type 0} {Passes : S → Type 0} {map : S → S} {step other : SteppingOf S} (𝓕 : Follows Passes map step other) where
+  runs-on : (n : ℕ) (t : Tally) (s : S) → Passes s → runOn other n t (map s) ≡ mapped map (runOn step n t s)
   runs-on zero t s p = finished other t (map s) ∙ ap (mapped map) (sym (finished step t s))
   runs-on (suc n) t s p =
       by-step step n t s (λ o. runOn other (suc n) t (map s) ≡ mapped map o)
@@ -30,6 +29,6 @@ module _ {Passes : List ℤ → Type 0} {map : List ℤ → List ℤ} {step othe
       ∙ rw (𝓕 .states s p e, 𝓕 .peaks (step .next s) p′) (runs-on n (further step t s) (step .next s) p′))
       (λ r z e. stopped other n t (map s) r z (𝓕 .numbers s p ∙ e))
 
-  pub follows : (n : ℕ) (s : List ℤ) → Passes s → runFrom other n (map s) ≡ mapped map (runFrom step n s)
+  pub follows : (n : ℕ) (s : S) → Passes s → runFrom other n (map s) ≡ mapped map (runFrom step n s)
   unfolding runFrom
   follows n s p = ap (λ (h : ℤ). runOn other n (started h) (map s)) (𝓕 .peaks s p) ∙ runs-on n (started (step .peak s)) s p

@@ -86,18 +86,22 @@ written-fits c g w e =
 
 -- ---- the checks
 
-pub keeps-sound : (c : Card) (g s : List ℤ) → Sound c g s → stepNumber c g s ≡ 0 → Sound c g (nextState c g s)
-unfolding stepNumber nextState stepNumberBy nextStateBy
-keeps-sound c g s sound k =
-    let n = next newVelocity c (readGround c g) (readState c s) in
+pub keeps-sound-by : (rule : Rule) (c : Card) (g s : List ℤ) → Sound c g s → stepNumberBy rule c g s ≡ 0 → Sound c g (nextStateBy rule c g s)
+unfolding stepNumberBy nextStateBy
+keeps-sound-by rule c g s sound k =
+    let n = next rule c (readGround c g) (readState c s) in
     let card = card-facts c (sound .card) in
     record {
       card = sound .card;
       lengths = written-fits c g n (length-facts c g s (sound .lengths) .ground);
       values =
           values-alike c (readState c (writeState c n)) n (record { height = height-back c n; east = east-back c n; north = north-back c n }) (readGround c g)
-          ∙ true-of _ (next-values newVelocity c (readGround c g) (readState c s) (omega arith) (omega arith) (to-T (sound .values)) k);
+          ∙ true-of _ (next-values rule c (readGround c g) (readState c s) (omega arith) (omega arith) (to-T (sound .values)) k);
     }
+
+pub keeps-sound : (c : Card) (g s : List ℤ) → Sound c g s → stepNumber c g s ≡ 0 → Sound c g (nextState c g s)
+unfolding stepNumber nextState
+keeps-sound = keeps-sound-by newVelocity
 
 pub keeps : (c : Card) (g s : List ℤ) → check c g s ≡ 0 → stepNumber c g s ≡ 0 → check c g (nextState c g s) ≡ 0
 keeps c g s e k = sound-check c g (nextState c g s) (keeps-sound c g s (check-sound c g s e) k)

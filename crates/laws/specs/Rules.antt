@@ -8,7 +8,7 @@ use Rattle.rules.specs.declared.Face.{Face}
 use Rattle.rules.specs.Step.{Rule, stepNumberBy, nextStateBy}
 
 module _ (rule rule′ : Rule) (agree : (dt d : ℕ) (f : Face) → rule dt d f ≡ rule′ dt d f) where
-  same-rule : rule ≡ rule′
+  pub same-rule : rule ≡ rule′
   same-rule = λ x dt d f. agree dt d f x
 
   pub agree-number : (c : Card) (g s : List ℤ) → stepNumberBy rule c g s ≡ stepNumberBy rule′ c g s

@@ -8,39 +8,39 @@ use lib.IntN.{ℤ, pos}
 use Rattle.rules.specs.declared.Card.{Card}
 use Rattle.rules.specs.declared.Tally.{Tally}
 use Rattle.rules.specs.Site.{check}
-use Rattle.rules.specs.Run.{Stepping, Outcome, started, accepted, stoppedFor, runOn, runFrom, siteStep, runAll, runAfter, run}
+use Rattle.rules.specs.Run.{SteppingOf, OutcomeOf, started, accepted, stoppedFor, runOn, runFrom, siteStep, runAll, runAfter, run}
 
-module _ (step : Stepping) where
+module _ {S : Type 0} (step : SteppingOf S) where
   -- the tally after one accepted step more, from the state s
-  abbrev pub further : Tally → List ℤ → Tally
+  abbrev pub further : Tally → S → Tally
   further t s = accepted t (step .peak (step .next s))
 
   -- the step that the run takes next, given its number
-  abbrev taken : ℕ → Tally → List ℤ → ℕ → Outcome
+  abbrev taken : ℕ → Tally → S → ℕ → OutcomeOf S
   taken n t s k =
-      elim k as (λ x. Outcome) [
+      elim k as (λ x. OutcomeOf S) [
         | zero ↦ runOn step n (further t s) (step .next s)
         | suc k ↦ record { tally = stoppedFor t (suc k); state = s }
       ]
 
   -- no step left
-  pub finished : (t : Tally) (s : List ℤ) → runOn step 0 t s ≡ record { tally = t; state = s }
+  pub finished : (t : Tally) (s : S) → runOn step 0 t s ≡ record { tally = t; state = s }
   unfolding runOn
   finished t s = refl
 
   -- a step that is accepted
-  pub gone-on : (n : ℕ) (t : Tally) (s : List ℤ) → step .number s ≡ 0 → runOn step (suc n) t s ≡ runOn step n (further t s) (step .next s)
+  pub gone-on : (n : ℕ) (t : Tally) (s : S) → step .number s ≡ 0 → runOn step (suc n) t s ≡ runOn step n (further t s) (step .next s)
   unfolding runOn
   gone-on n t s e = ap (taken n t s) e
 
   -- a step that is refused, with r
-  pub stopped : (n : ℕ) (t : Tally) (s : List ℤ) (r : ℕ) → 0 < r → step .number s ≡ r → runOn step (suc n) t s ≡ record { tally = stoppedFor t r; state = s }
+  pub stopped : (n : ℕ) (t : Tally) (s : S) (r : ℕ) → 0 < r → step .number s ≡ r → runOn step (suc n) t s ≡ record { tally = stoppedFor t r; state = s }
   unfolding runOn
   stopped n t s zero h e = absurd (not-suc-le-zero h)
   stopped n t s (suc r) h e = ap (taken n t s) e
 
   -- what holds of the run after an accepted step, and of one that is stopped, holds of the run
-  pub by-step : (n : ℕ) (t : Tally) (s : List ℤ) (P : Outcome → Type 0)
+  pub by-step : (n : ℕ) (t : Tally) (s : S) (P : OutcomeOf S → Type 0)
       → (step .number s ≡ 0 → P (runOn step n (further t s) (step .next s)))
       → ((r : ℕ) → 0 < r → step .number s ≡ r → P (record { tally = stoppedFor t r; state = s }))
       → P (runOn step (suc n) t s)
@@ -51,22 +51,22 @@ module _ (step : Stepping) where
       go (suc r) e = subst P (sym (stopped n t s (suc r) (suc-le-suc zero-le) e)) (off (suc r) (suc-le-suc zero-le) e)
 
 -- what a state passes and an accepted step keeps
-abbrev pub Keeps : Stepping → (Passes : List ℤ → Type 0) → Type 0
-Keeps step Passes = (s : List ℤ) → Passes s → step .number s ≡ 0 → Passes (step .next s)
+abbrev pub Keeps : {S : Type 0} → SteppingOf S → (Passes : S → Type 0) → Type 0
+Keeps {S} step Passes = (s : S) → Passes s → step .number s ≡ 0 → Passes (step .next s)
 
 -- ---- for a loop: after `done` of `wanted` steps the tally is t and the state s, and the steps that are left lead to the outcome o
-pub record LeadsTo (step : Stepping) (wanted done : ℕ) (t : Tally) (s : List ℤ) (o : Outcome) : Type 0 where
+pub record LeadsTo {S : Type 0} (step : SteppingOf S) (wanted done : ℕ) (t : Tally) (s : S) (o : OutcomeOf S) : Type 0 where
   pub leads : runOn step (wanted - done) t s ≡ o
 
 one-less : (wanted done : ℕ) → done < wanted → wanted - done ≡ suc (wanted - (done + 1))
 one-less wanted done h = omega arith
 
 -- it begins so
-pub leads-from : (step : Stepping) (wanted : ℕ) (s : List ℤ) → LeadsTo step wanted 0 (started (step .peak s)) s (runFrom step wanted s)
+pub leads-from : {S : Type 0} (step : SteppingOf S) (wanted : ℕ) (s : S) → LeadsTo step wanted 0 (started (step .peak s)) s (runFrom step wanted s)
 unfolding runFrom
 leads-from step wanted s = record { leads = ap (λ (n : ℕ). runOn step n (started (step .peak s)) s) (omega arith) }
 
-module _ {step : Stepping} {wanted done : ℕ} {t : Tally} {s : List ℤ} {o : Outcome} where
+module _ {S : Type 0} {step : SteppingOf S} {wanted done : ℕ} {t : Tally} {s : S} {o : OutcomeOf S} where
   pub leads-on : LeadsTo step wanted done t s o → done < wanted → step .number s ≡ 0 → LeadsTo step wanted (done + 1) (further step t s) (step .next s) o
   leads-on l h e = record { leads = sym (ap (λ (n : ℕ). runOn step n t s) (one-less wanted done h) ∙ gone-on step (wanted - (done + 1)) t s e) ∙ l .leads }
 

@@ -4,6 +4,6 @@ use mathlib.Core.List.{List}
 use lib.ListN.{length}
 
 -- a field of k bytes from index at on, of at most four bytes
-pub record Field (l : List ℕ) (at k : ℕ) : Type 0 where
+pub record BytesAt (l : List ℕ) (at k : ℕ) : Type 0 where
   pub narrow : k ≤ 4
   pub inside : at + k ≤ length l

@@ -4,7 +4,7 @@ ghost use Prim.Native.Nat.{_+_, _≤_};
 ghost use lib.ListN.{length, drop};
 ghost use Rattle.rules.specs.Sheet.{numberIn, bytesOf};
 ghost use Rattle.laws.specs.Laid.{laid};
-ghost use Rattle.numbers.specs.Asked.{Field};
+ghost use Rattle.numbers.specs.Asked.{BytesAt};
 
 pub fn widened(x: u8) -> u32
     ensures { λ r. ⌜ r ≡ x ⌝ }
@@ -14,7 +14,7 @@ pub fn widened(x: u8) -> u32
 
 // The number in the k bytes from index `at` on.
 pub fn number(s: &[u8], at: usize, k: usize) -> u32
-    requires { ⌜ Field (now s) at k ⌝ }
+    requires { ⌜ BytesAt (now s) at k ⌝ }
     ensures { λ r. ⌜ r ≡ numberIn k (drop at (now (s .entry))) ⌝ }
 {
     let mut n = 0u32;

@@ -1,15 +1,13 @@
 -- How a run ends, over any step: in a state that still passes, for a reason that is 0 or the number of a step, and with steps and reason that agree.
 use Prim.Native.Nat.{ℕ, zero, suc, _+_, _≤_, _<_}
 use mathlib.Core.Path.{_≡_, refl, sym, subst}
-use mathlib.Core.List.{List}
 use native.Mathlib.Omega.{arith}
-use lib.IntN.{ℤ}
 use Rattle.rules.specs.declared.Tally.{Tally}
-use Rattle.rules.specs.Run.{Stepping, Outcome, started, accepted, stoppedFor, runOn, runFrom}
+use Rattle.rules.specs.Run.{SteppingOf, OutcomeOf, started, accepted, stoppedFor, runOn, runFrom}
 use Rattle.laws.specs.Runs.{Keeps, further, finished, by-step}
 
 -- how a run ends that wants so many steps in all: its end state passes, its reason is 0 or the number of a step, and its steps and reason agree
-pub record EndsAs (Passes : List ℤ → Type 0) (OfAStep : ℕ → Type 0) (wanted : ℕ) (o : Outcome) : Type 0 where
+pub record EndsAs {S : Type 0} (Passes : S → Type 0) (OfAStep : ℕ → Type 0) (wanted : ℕ) (o : OutcomeOf S) : Type 0 where
   pub passes : Passes (o .state)
   pub reason : OfAStep (o .tally .reason)
   pub notMore : o .tally .steps ≤ wanted
@@ -17,16 +15,16 @@ pub record EndsAs (Passes : List ℤ → Type 0) (OfAStep : ℕ → Type 0) (wan
   pub onlyThen : o .tally .steps ≡ wanted → o .tally .reason ≡ 0
 
 -- what that asks of the step: an accepted one leads from a state that passes to one that passes, and every number that it has is the number of a step
-pub record Proper (step : Stepping) (Passes : List ℤ → Type 0) (OfAStep : ℕ → Type 0) : Type 0 where
+pub record Proper {S : Type 0} (step : SteppingOf S) (Passes : S → Type 0) (OfAStep : ℕ → Type 0) : Type 0 where
   pub kept : Keeps step Passes
-  pub numbers : (s : List ℤ) → OfAStep (step .number s)
+  pub numbers : (s : S) → OfAStep (step .number s)
   pub done : OfAStep 0
 
-module _ {step : Stepping} {Passes : List ℤ → Type 0} {OfAStep : ℕ → Type 0} (𝓟 : Proper step Passes OfAStep) (wanted : ℕ) where
+module _ {S : Type 0} {step : SteppingOf S} {Passes : S → Type 0} {OfAStep : ℕ → Type 0} (𝓟 : Proper step Passes OfAStep) (wanted : ℕ) where
   abbrev FromHere : ℕ → Type 0
-  FromHere n = (t : Tally) (s : List ℤ) → t .steps + n ≡ wanted → t .reason ≡ 0 → Passes s → EndsAs Passes OfAStep wanted (runOn step n t s)
+  FromHere n = (t : Tally) (s : S) → t .steps + n ≡ wanted → t .reason ≡ 0 → Passes s → EndsAs Passes OfAStep wanted (runOn step n t s)
 
-  stops : (n r : ℕ) (t : Tally) (s : List ℤ) → t .steps + suc n ≡ wanted → 0 < r → OfAStep r → Passes s
+  stops : (n r : ℕ) (t : Tally) (s : S) → t .steps + suc n ≡ wanted → 0 < r → OfAStep r → Passes s
       → EndsAs Passes OfAStep wanted (record { tally = stoppedFor t r; state = s })
   unfolding stoppedFor
   stops n r t s w p k e = record {
@@ -37,7 +35,7 @@ module _ {step : Stepping} {Passes : List ℤ → Type 0} {OfAStep : ℕ → Typ
     onlyThen = λ z. omega arith;
   }
 
-  goes-on : (n : ℕ) → FromHere n → (t : Tally) (s : List ℤ) → t .steps + suc n ≡ wanted → t .reason ≡ 0 → Passes s → step .number s ≡ 0
+  goes-on : (n : ℕ) → FromHere n → (t : Tally) (s : S) → t .steps + suc n ≡ wanted → t .reason ≡ 0 → Passes s → step .number s ≡ 0
       → EndsAs Passes OfAStep wanted (runOn step n (further step t s) (step .next s))
   unfolding accepted
   goes-on n ih t s w z e k = ih (further step t s) (step .next s) (omega arith) z (𝓟 .kept s e k)
@@ -56,6 +54,6 @@ module _ {step : Stepping} {Passes : List ℤ → Type 0} {OfAStep : ℕ → Typ
       (λ k. goes-on n (ends-on n) t s w z e k)
       (λ r p k. stops n r t s w p (subst OfAStep k (𝓟 .numbers s)) e)
 
-  pub ends-as : (s : List ℤ) → Passes s → EndsAs Passes OfAStep wanted (runFrom step wanted s)
+  pub ends-as : (s : S) → Passes s → EndsAs Passes OfAStep wanted (runFrom step wanted s)
   unfolding runFrom started
   ends-as s e = ends-on wanted (started (step .peak s)) s (omega arith) refl e

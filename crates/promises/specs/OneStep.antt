@@ -8,7 +8,7 @@ use lib.ListN.{length}
 use Rattle.rules.specs.declared.Card.{Card}
 use Rattle.rules.specs.Site.{checkWith, firstRefusal, ifDone}
 use Rattle.rules.specs.Step.{stepNumber, nextState}
-use Rattle.rules.specs.Run.{Stepping, Outcome, started, accepted, stoppedFor, runFrom, siteStep, runAll, runAfter}
+use Rattle.rules.specs.Run.{SteppingOf, OutcomeOf, started, accepted, stoppedFor, runFrom, siteStep, runAll, runAfter}
 use Rattle.rules.specs.Calls.{stepAnswer, stepNext, runOutcome, runTally, runState}
 use Rattle.laws.specs.Outcomes.{if-done, if-refused, if-same}
 use Rattle.laws.specs.Runs.{further, finished, by-step}
@@ -17,12 +17,12 @@ use Rattle.promises.specs.TheCall.{call-leaves}
 -- ---- over any step
 
 -- an outcome of one step at most, from the state s: its number is the reason; 0 leaves the state that it made after 1 step, and else s is left after none
-pub record Once (number : ℕ) (made s : List ℤ) (o : Outcome) : Type 0 where
+pub record Once {S : Type 0} (number : ℕ) (made s : S) (o : OutcomeOf S) : Type 0 where
   pub reason : o .tally .reason ≡ number
   pub steps : o .tally .steps ≡ ifDone number 1 0
   pub state : o .state ≡ ifDone number made s
 
-pub once : (step : Stepping) (s : List ℤ) → Once (step .number s) (step .next s) s (runFrom step 1 s)
+pub once : {S : Type 0} (step : SteppingOf S) (s : S) → Once (step .number s) (step .next s) s (runFrom step 1 s)
 unfolding runFrom started accepted stoppedFor
 once step s =
     by-step step 0 (started (step .peak s)) s (Once (step .number s) (step .next s) s)

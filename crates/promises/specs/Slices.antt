@@ -2,7 +2,6 @@
 -- it is, and get the same answer to the last micrometre. Here over any step; SiteSlices.antt says it of a site's run.
 use Prim.Native.Nat.{ℕ, zero, suc, _+_, _<_}
 use mathlib.Core.Path.{_≡_, refl, sym, ap, _∙_}
-use mathlib.Core.List.{List}
 use native.Mathlib.Nat.{add-zero, zero-add, suc-add, not-suc-le-zero}
 use native.Mathlib.Omega.{arith}
 use lib.IntN.{ℤ}
@@ -10,7 +9,7 @@ use lib.Signed.{leZ}
 use lib.Dec.{T}
 use Rattle.rules.specs.declared.Tally.{Tally}
 use Rattle.rules.specs.Grid.{maxZ}
-use Rattle.rules.specs.Run.{Stepping, Outcome, started, accepted, stoppedFor, runOn, runFrom}
+use Rattle.rules.specs.Run.{SteppingOf, OutcomeOf, started, accepted, stoppedFor, runOn, runFrom}
 use Rattle.laws.specs.Numbers.{leZ-refl}
 use Rattle.laws.specs.Grids.{max-right}
 use Rattle.laws.specs.Maxima.{max-absorbs, max-assoc}
@@ -22,15 +21,15 @@ use Rattle.laws.specs.Runs.{further, finished, gone-on, stopped, by-step}
 unfoldable pub bothTallies : Tally → Tally → Tally
 bothTallies a b = record { steps = a .steps + b .steps; reason = b .reason; top = maxZ (a .top) (b .top) }
 
-unfoldable pub bothRuns : Tally → Outcome → Outcome
+unfoldable pub bothRuns : {S : Type 0} → Tally → OutcomeOf S → OutcomeOf S
 bothRuns a o = record { tally = bothTallies a (o .tally); state = o .state }
 
 -- the first run and, where its reason is 0, the second from the state in which the first ended; where the first was stopped, the first alone
-unfoldable pub joinedAfter : (reason : ℕ) (first : Outcome) (second : List ℤ → Outcome) → Outcome
+unfoldable pub joinedAfter : {S : Type 0} → (reason : ℕ) (first : OutcomeOf S) (second : S → OutcomeOf S) → OutcomeOf S
 joinedAfter zero first second = bothRuns (first .tally) (second (first .state))
 joinedAfter (suc r) first second = first
 
-unfoldable pub joined : (first : Outcome) (second : List ℤ → Outcome) → Outcome
+unfoldable pub joined : {S : Type 0} → (first : OutcomeOf S) (second : S → OutcomeOf S) → OutcomeOf S
 joined first second = joinedAfter (first .tally .reason) first second
 
 -- ---- a tally in front is carried along
@@ -42,7 +41,7 @@ accepted-both a t h =
     let top : accepted (bothTallies a t) h .top ≡ bothTallies a (accepted t h) .top = cc (max-assoc (a .top) (t .top) h) in
     λ x. record { steps = steps x; reason = bothTallies a t .reason; top = top x }
 
-carried-along : (step : Stepping) (a : Tally) (n : ℕ) (t : Tally) (s : List ℤ) → runOn step n (bothTallies a t) s ≡ bothRuns a (runOn step n t s)
+carried-along : {S : Type 0} (step : SteppingOf S) (a : Tally) (n : ℕ) (t : Tally) (s : S) → runOn step n (bothTallies a t) s ≡ bothRuns a (runOn step n t s)
 unfolding bothRuns bothTallies stoppedFor
 carried-along step a zero t s = finished step (bothTallies a t) s ∙ ap (bothRuns a) (sym (finished step t s))
 carried-along step a (suc n) t s =
@@ -62,14 +61,14 @@ rejoined t h z l =
     let reason : bothTallies t (started h) .reason ≡ t .reason = cc in
     λ x. record { steps = add-zero (t .steps) x; reason = reason x; top = max-absorbs (t .top) h l x }
 
-no-second : (r : ℕ) → 0 < r → (first : Outcome) (second : List ℤ → Outcome) → joinedAfter r first second ≡ first
+no-second : {S : Type 0} (r : ℕ) → 0 < r → (first : OutcomeOf S) (second : S → OutcomeOf S) → joinedAfter r first second ≡ first
 unfolding joinedAfter
 no-second zero h first second = absurd (not-suc-le-zero h)
 no-second (suc r) h first second = refl
 
-module _ (step : Stepping) (n : ℕ) where
+module _ {S : Type 0} (step : SteppingOf S) (n : ℕ) where
   -- no step before it; the top is at least the greatest height that stands
-  none-before : (t : Tally) (s : List ℤ) → t .reason ≡ 0 → T (leZ (step .peak s) (t .top))
+  none-before : (t : Tally) (s : S) → t .reason ≡ 0 → T (leZ (step .peak s) (t .top))
       → runOn step n t s ≡ joined (record { tally = t; state = s }) (runFrom step n)
   unfolding joined joinedAfter runFrom
   none-before t s z h =
@@ -78,13 +77,13 @@ module _ (step : Stepping) (n : ℕ) where
       ∙ ap (λ (r : ℕ). joinedAfter r (record { tally = t; state = s }) (runFrom step n)) (sym z)
 
   -- m steps before it
-  some-before : (m : ℕ) (t : Tally) (s : List ℤ) → t .reason ≡ 0 → T (leZ (step .peak s) (t .top))
+  some-before : (m : ℕ) (t : Tally) (s : S) → t .reason ≡ 0 → T (leZ (step .peak s) (t .top))
       → runOn step (m + n) t s ≡ joined (runOn step m t s) (runFrom step n)
   unfolding joined accepted stoppedFor
   some-before zero t s z h =
       ap (λ (k : ℕ). runOn step k t s) (zero-add n)
       ∙ none-before t s z h
-      ∙ ap (λ (o : Outcome). joined o (runFrom step n)) (sym (finished step t s))
+      ∙ ap (λ (o : OutcomeOf S). joined o (runFrom step n)) (sym (finished step t s))
   some-before (suc m) t s z h =
       ap (λ (k : ℕ). runOn step k t s) (suc-add m n)
       ∙ by-step step m t s (λ o. runOn step (suc (m + n)) t s ≡ joined o (runFrom step n))
@@ -93,6 +92,6 @@ module _ (step : Stepping) (n : ℕ) where
       ∙ some-before m (further step t s) (step .next s) z (max-right (t .top) (step .peak (step .next s))))
       (λ r p e. stopped step (m + n) t s r p e ∙ sym (no-second r p (record { tally = stoppedFor t r; state = s }) (runFrom step n)))
 
-pub in-slices : (step : Stepping) (m n : ℕ) (s : List ℤ) → runFrom step (m + n) s ≡ joined (runFrom step m s) (runFrom step n)
+pub in-slices : {S : Type 0} (step : SteppingOf S) (m n : ℕ) (s : S) → runFrom step (m + n) s ≡ joined (runFrom step m s) (runFrom step n)
 unfolding runFrom started
 in-slices step m n s = some-before step n m (started (step .peak s)) s refl (leZ-refl (step .peak s))

@@ -29,19 +29,26 @@ stoppedFor t k = record { steps = t .steps; reason = k; top = t .top }
 
 -- ---- a run, over any step
 
--- stepping, as a run sees it: the number of a state's step, the next state where that is 0, and the greatest height of a state
-pub record Stepping : Type 0 where
-  pub number : List ℤ → ℕ
-  pub next : List ℤ → List ℤ
-  pub peak : List ℤ → ℤ
+-- stepping, as a run sees it, over any kind of state: the number of a state's step, the next state where that is 0, and the greatest height of a state
+pub record SteppingOf (State : Type 0) : Type 0 where
+  pub number : State → ℕ
+  pub next : State → State
+  pub peak : State → ℤ
 
 -- how a run ends: its tally, and the last accepted state
-pub record Outcome : Type 0 where
+pub record OutcomeOf (State : Type 0) : Type 0 where
   pub tally : Tally
-  pub state : List ℤ
+  pub state : State
+
+-- both over a site's state, its list of words
+abbrev pub Stepping : Type 0
+Stepping = SteppingOf (List ℤ)
+
+abbrev pub Outcome : Type 0
+Outcome = OutcomeOf (List ℤ)
 
 -- at most n steps more, from a state that was reached with the tally t
-unfoldable pub runOn : Stepping → ℕ → Tally → (state : List ℤ) → Outcome
+unfoldable pub runOn : {S : Type 0} → SteppingOf S → ℕ → Tally → (state : S) → OutcomeOf S
 runOn step zero t s = record { tally = t; state = s }
 runOn step (suc n) t s =
     elim (step .number s) [
@@ -50,7 +57,7 @@ runOn step (suc n) t s =
     ]
 
 -- at most n steps, from the starting state
-unfoldable pub runFrom : Stepping → ℕ → (state : List ℤ) → Outcome
+unfoldable pub runFrom : {S : Type 0} → SteppingOf S → ℕ → (state : S) → OutcomeOf S
 runFrom step n s = runOn step n (started (step .peak s)) s
 
 -- ---- a site's run

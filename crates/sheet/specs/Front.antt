@@ -6,7 +6,8 @@ use mathlib.Core.List.{List}
 use native.Mathlib.Nat.{suc-ne-zero}
 use Rattle.rules.specs.Site.{cardFits, firstOf}
 use Rattle.rules.specs.Sheet.{cardIn, headFits, sheetLengthsFit, readNumber}
-use Rattle.laws.specs.Sheets.{read-number-is}
+use Rattle.laws.specs.Checks.{apart, by-front}
+use Rattle.laws.specs.Sheets.{passed, read-number-is}
 
 -- 9, 1 or 2, and 0 where the values decide
 unfoldable pub frontNumber : List ℕ → (n m : ℕ) → ℕ
@@ -38,14 +39,11 @@ module _ (l : List ℕ) (n m : ℕ) where
     pub lengths : sheetLengthsFit l n m ≡ true
 
   pub front-facts : frontNumber l n m ≡ 0 → Front
-  unfolding frontNumber firstOf
-  front-facts e = go (headFits l) (cardFits (cardIn l)) (sheetLengthsFit l n m) refl refl refl e
-    where
-      go : (a b d : Bool) → headFits l ≡ a → cardFits (cardIn l) ≡ b → sheetLengthsFit l n m ≡ d → cond a (firstOf b d true) 9 ≡ 0 → Front
-      go false b d p q r e = absurd (suc-ne-zero 8 e)
-      go true false d p q r e = absurd (suc-ne-zero 0 e)
-      go true true false p q r e = absurd (suc-ne-zero 1 e)
-      go true true true p q r e = record { head = p; card = q; lengths = r }
+  unfolding frontNumber
+  front-facts e =
+      let h = passed (headFits l) (firstOf (cardFits (cardIn l)) (sheetLengthsFit l n m) true) 8 e in
+      let p = apart (cardFits (cardIn l)) (sheetLengthsFit l n m) true (h .1) in
+      record { head = h .0; card = p .card; lengths = p .lengths }
 
   pub front-refused : (frontNumber l n m ≡ 0 → ⊥) → frontNumber l n m ≡ readNumber l n m
   unfolding frontNumber firstOf
@@ -53,9 +51,7 @@ module _ (l : List ℕ) (n m : ℕ) where
     where
       go : (a b d v : Bool) → (cond a (firstOf b d true) 9 ≡ 0 → ⊥) → cond a (firstOf b d true) 9 ≡ cond a (firstOf b d v) 9
       go false b d v h = refl
-      go true false d v h = refl
-      go true true false v h = refl
-      go true true true v h = absurd (h refl)
+      go true b d v h = sym (by-front b d v (firstOf b d true) refl h)
 
   pub front-told : (k : ℕ) → suc k ≡ frontNumber l n m → suc k ≡ readNumber l n m
   front-told k e = e ∙ front-refused (λ z. suc-ne-zero k (e ∙ z))
