@@ -1,3 +1,4 @@
+-- `advance`: each test that passes gives what the next part needs: the limit for the transfers, then the heights' range.
 use borrow.Author.Needs.{needs}
 use Rattle.advance.proofs.Answers.{limit-broken, limited, tide-room, crossed, height-broken, next-room}
 use Rattle.advance.proofs.advance.Statement.{statement}

@@ -1,3 +1,4 @@
+-- `fill_next`: the tide's front holds the new heights; with the velocities behind them, where those fit, it is the next state.
 use mathlib.Core.Path.{_≡_, _∙_, sym, ap, refl}
 use mathlib.Core.List.{List, _++_}
 use Prim.Native.Nat.{ℕ, _*_, _≤_}

@@ -1,3 +1,4 @@
+-- `move_on`: the limit and the heights are known to pass, so 6, 7 or 0 is given by the first test that fails, or by none.
 use borrow.Author.Needs.{needs}
 use Rattle.advance.proofs.Answers.{share-broken, speed-broken, all-kept}
 use Rattle.advance.proofs.move_on.Statement.{statement}

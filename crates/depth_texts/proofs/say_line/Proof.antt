@@ -1,3 +1,4 @@
+-- `say_line`: at most ten bytes are asked for, and the scratch has ten letters.
 use mathlib.Core.Path.{sym}
 use native.Mathlib.Omega.{arith}
 use lib.Seq.{length-take-le}

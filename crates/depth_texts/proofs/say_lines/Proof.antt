@@ -1,3 +1,4 @@
+-- `say_lines`: the number of bytes goes from 0 up to 11, and a line is said only for 10 or fewer.
 use Prim.Native.Nat.{_≤_, _-_}
 use borrow.Author.Needs.{needs}
 use Rattle.depth_texts.proofs.say_lines.Statement.{statement}

@@ -1,3 +1,4 @@
+-- `new_height`: a height and four transfers of at most 50,000,000 each, so that no sum or difference wraps.
 use mir.Syntax.{w32}
 use Rattle.laws.specs.Exact.{Node, fits, value, int, add, sub}
 use Rattle.face.proofs.Bounds.{height-within}

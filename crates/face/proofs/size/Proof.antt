@@ -1,3 +1,4 @@
+-- `size`: both arms cast a number that is not negative, and a velocity in its range does not wrap when it is negated.
 use mathlib.Core.Path.{_∙_, ap}
 use mir.Facts.{toZ-ofZ}
 use mir.Syntax.{w32}

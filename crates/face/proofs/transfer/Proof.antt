@@ -1,3 +1,4 @@
+-- `transfer`: no product wraps, and for a height of 0 or more the quotient towards zero is the floor of the size, with u's sign.
 use mathlib.Core.Path.{_≡_, _∙_}
 use mathlib.Core.Bool.{cond}
 use native.Mathlib.Omega.{arith}

@@ -1,3 +1,4 @@
+-- `upwind`: each arm returns the height that the test picks.
 use mathlib.Core.Path.{_≡_}
 use mathlib.Core.Bool.{true, false}
 use lib.IntN.{pos}

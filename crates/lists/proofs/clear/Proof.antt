@@ -1,3 +1,4 @@
+-- `clear`: behind k turns the first k words are 0, as if copied from a list of zeros.
 use mathlib.Core.Path.{sym}
 use Prim.Native.Nat.{_-_}
 use native.Mathlib.Omega.{arith}

@@ -1,3 +1,4 @@
+-- `copy`: behind k turns the first k words are those of the other list, and the rest is as lent.
 use Prim.Native.Nat.{_-_}
 use mathlib.Core.Path.{refl}
 use native.Mathlib.Omega.{arith}

@@ -1,3 +1,4 @@
+-- `renew`: where the number is 0 the front of what was made is copied, and else nothing is written.
 use mathlib.Core.Path.{_∙_, sym}
 use borrow.Author.Needs.{needs}
 use lib.Seq.{length-take-le}

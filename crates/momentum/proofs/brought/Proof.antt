@@ -1,3 +1,4 @@
+-- `brought`: flow in is the positive part of the flow out turned round, and its product with a velocity fits in 64 bits.
 use mir.Syntax.{w32, w64}
 use Rattle.rules.specs.Step.{positive, brought}
 use Rattle.laws.specs.Sizes.{within-neg}

@@ -1,3 +1,4 @@
+-- `carried`: bounds on the own share, on each flow and on each velocity keep every product and sum within 64 bits.
 use mir.Syntax.{w64}
 use Rattle.rules.specs.Step.{carried}
 use Rattle.laws.specs.Exact.{Node, fits, value, int, result, add, mul, cast}

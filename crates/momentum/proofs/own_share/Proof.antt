@@ -1,3 +1,4 @@
+-- `own_share`: two heights and four flows out, each within its bound, so that no sum or difference wraps.
 use mir.Syntax.{w32}
 use Rattle.rules.specs.Step.{ownShare}
 use Rattle.laws.specs.Exact.{Node, fits, value, int, add, sub}

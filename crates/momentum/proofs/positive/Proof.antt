@@ -1,3 +1,4 @@
+-- `positive`: each arm returns what the definition has for that sign.
 use mathlib.Core.Path.{_∙_, sym}
 use mir.Facts.{toZ-ofZ}
 use Rattle.momentum.proofs.Laws.{positive-yes, positive-no}

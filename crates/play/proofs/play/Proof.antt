@@ -1,3 +1,4 @@
+-- `play`: the front of the page is what is printed, and it ends within the page's 9,298 bytes.
 use native.Mathlib.Omega.{arith}
 use Rattle.put.proofs.Laws.{put-same}
 use Rattle.print.proofs.Laws.{front-part, front-within, front-length}

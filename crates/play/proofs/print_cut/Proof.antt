@@ -1,3 +1,4 @@
+-- `print_cut`: the player's number is 0, so the sheet's card fits and has at most 32×32 cells, and the lists can be cut to its sizes.
 use mathlib.Core.Path.{_≡_, sym, ap, _∙_}
 use mathlib.Core.Bool.{true}
 use Prim.Native.Nat.{_≤_}

@@ -1,3 +1,4 @@
+-- `print_input`: the refused line where the player's number is not 0, and elsewhere what is printed of the run.
 use mathlib.Core.Path.{sym, ap, _∙_}
 use Rattle.rules.specs.Play.{refusedLine}
 use Rattle.print.proofs.Laws.{appended-same}

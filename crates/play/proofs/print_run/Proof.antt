@@ -1,3 +1,4 @@
+-- `print_run`: the run's own tally, and behind its line the rows of the state in which the run ends.
 use mathlib.Core.Path.{ap}
 use mathlib.Core.List.{List}
 use native.Mathlib.Omega.{arith}

@@ -1,3 +1,4 @@
+-- `print_sheet`: the player's number is 0, so what is read is the sheet's own card, ground and state, and those are run.
 use mathlib.Core.Path.{_≡_, ap, _∙_}
 use native.Mathlib.Omega.{arith}
 use Rattle.rules.specs.declared.Heard.{Heard}

@@ -1,3 +1,4 @@
+-- `append`: there is room for all of the text in the part from `at` on, and what is put there ends within the list.
 use borrow.Author.Needs.{needs}
 use native.Mathlib.Omega.{arith}
 use Rattle.print.proofs.Laws.{put-appended, put-ends}

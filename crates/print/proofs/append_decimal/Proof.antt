@@ -1,3 +1,4 @@
+-- `append_decimal`: a u32 has at most ten digits, so that all of them are put into the part from `at` on.
 use borrow.Author.Needs.{needs}
 use native.Mathlib.Omega.{arith}
 use Rattle.laws.specs.Decimals.{length-decimal}

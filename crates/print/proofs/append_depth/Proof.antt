@@ -1,3 +1,4 @@
+-- `append_depth`: a depth text has at most 7 bytes, so that all of it is put into the part from `at` on.
 use borrow.Author.Needs.{needs}
 use Rattle.put.proofs.Laws.{put-same}
 use Rattle.text.proofs.Laws.{told-put, signed-same}

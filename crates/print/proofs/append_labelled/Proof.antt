@@ -1,3 +1,4 @@
+-- `append_labelled`: the number of at most ten digits behind the word.
 use native.Mathlib.Omega.{arith}
 use Rattle.rules.specs.Play.{labelled}
 use Rattle.print.proofs.Laws.{appended-more}

@@ -1,3 +1,4 @@
+-- `refused_line`: eight bytes, at most ten digits and a line feed fit in the 19 that are asked for.
 use Rattle.rules.specs.Play.{refusedLine}
 use Rattle.print.proofs.Laws.{appended-more}
 use borrow.Author.Needs.{needs}

@@ -1,3 +1,4 @@
+-- `size`: in 64 bits the negation cannot wrap, and the size of any signed 32-bit number fits in a u32.
 use mathlib.Core.Path.{_∙_, ap}
 use mir.Syntax.{w64}
 use lib.IntN.{natAbs}

@@ -1,3 +1,4 @@
+-- `tally_line`: three words with their numbers and a line feed, each behind the one before, at most 50 bytes in all.
 use mathlib.Core.Path.{_≡_, ap, _∙_}
 use lib.IntN.{natAbs}
 use mir.Syntax.{w32}

@@ -1,3 +1,4 @@
+-- `put_centimetres`: a u32 has at most ten digits, so that three bytes more lie in the room; each is set behind the one before.
 use native.Mathlib.Omega.{arith}
 use lib.ListN.{length-set}
 use borrow.Author.Needs.{needs}

@@ -1,3 +1,4 @@
+-- `put_cm`: the text has at most 13 bytes, so the array's front holds all of it, and that front is what is handed over.
 use mathlib.Core.Path.{_∙_}
 use mathlib.Core.List.{_++_}
 use native.Mathlib.Omega.{arith}

@@ -1,3 +1,4 @@
+-- `append_cell`: the word at the row's start and the column is the cell's height, and its text lies behind the comma.
 use mathlib.Core.Path.{ap, _∙_}
 use Prim.Native.Nat.{ℕ, _+_}
 use native.Mathlib.Omega.{arith}

@@ -1,3 +1,4 @@
+-- `append_comma`: nothing before the first text, and two bytes before any other, as the definition has it.
 use native.Mathlib.Omega.{arith}
 use Rattle.print.proofs.Laws.{appended-same, appended-none}
 use Rattle.rows.proofs.Separators.{separator-first, separator-other}

@@ -1,3 +1,4 @@
+-- `row_line`: the line feed behind at most 32 texts of at most 9 bytes, 289 bytes in all.
 use native.Mathlib.Omega.{arith}
 use Rattle.print.proofs.Laws.{appended-more}
 use borrow.Author.Needs.{needs}

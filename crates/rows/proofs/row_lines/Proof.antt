@@ -1,3 +1,4 @@
+-- `row_lines`: one turn appends one row's line, of at most 289 bytes, and there are at most 32 rows.
 use mathlib.Core.Path.{refl}
 use Prim.Native.Nat.{_-_}
 use native.Mathlib.Omega.{arith}

@@ -1,3 +1,4 @@
+-- `row_texts`: one turn appends one cell's text, of at most 9 bytes, behind those before it.
 use mathlib.Core.Path.{refl}
 use Prim.Native.Nat.{_-_}
 use native.Mathlib.Omega.{arith}

@@ -1,3 +1,4 @@
+-- `times`: two numbers of at most 32 have a product of at most 1,024.
 use mathlib.Core.Path.{refl}
 use native.Mathlib.Omega.{arith}
 use native.Mathlib.Nat.{mul-le-mul}

@@ -1,3 +1,4 @@
+-- `large_run`: no state of a sound site has over 49,408 words, and the longest tide has room for as many.
 use native.Mathlib.Omega.{arith}
 use borrow.Author.Needs.{needs}
 use Rattle.run.proofs.Answers.{state-few}

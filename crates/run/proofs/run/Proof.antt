@@ -1,3 +1,4 @@
+-- `run`: a check that fails is the reason and leaves both lists as lent; where all pass, the site is sound.
 use mathlib.Core.Path.{sym, _∙_}
 use borrow.Author.Needs.{needs}
 use Rattle.laws.specs.Facts.{check-with-sound}

@@ -1,3 +1,4 @@
+-- `run_in`: the front of the tide is as long as the state, and once the steps are done the scratch list is cleared.
 use mathlib.Core.Path.{sym, ap, _∙_}
 use Prim.Native.Nat.{ℕ}
 use lib.IntN.{pos}

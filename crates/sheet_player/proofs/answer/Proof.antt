@@ -1,3 +1,4 @@
+-- `answer`: what `play` put lies at the front of the array, so that this part can be written out.
 use Rattle.put.proofs.Laws.{put-fits, put-within}
 use borrow.Author.Needs.{needs}
 use Rattle.sheet_player.proofs.answer.Statement.{statement}

@@ -1,3 +1,4 @@
+-- `large_step`: no state of a sound site has over 49,408 words, and the longest lists have room for as many.
 use native.Mathlib.Omega.{arith}
 use borrow.Author.Needs.{needs}
 use Rattle.step.proofs.Drafts.{room-few}

@@ -1,3 +1,4 @@
+-- `step`: a check that fails is the answer and leaves the next state as lent; where all pass, the site is sound.
 use mathlib.Core.Path.{sym, _∙_}
 use borrow.Author.Needs.{needs}
 use Rattle.laws.specs.Facts.{check-with-sound}

@@ -1,3 +1,4 @@
+-- `step_by_draft`: the step is worked out in the fronts of tide and draft, and the next state is renewed only where the number is 0.
 use mathlib.Core.Path.{sym}
 use borrow.Author.Needs.{needs}
 use Rattle.step.proofs.Drafts.{tide-part, draft-part, state-room, step-room, front, answered}

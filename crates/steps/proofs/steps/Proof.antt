@@ -1,3 +1,4 @@
+-- `steps`: at each turn the site is sound, and the steps that are left lead from tally and state to the run's outcome.
 use Prim.Native.Nat.{_-_}
 use mathlib.Core.Path.{_≡_, _∙_}
 use native.Mathlib.Omega.{arith}

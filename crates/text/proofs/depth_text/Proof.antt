@@ -1,3 +1,4 @@
+-- `depth_text`: what was put lies at the front of the scratch; where it takes all of it, the scratch is that part.
 use mathlib.Core.Path.{refl, sym, _∙_}
 use Rattle.put.proofs.Laws.{put-same, put-part, put-within, put-whole}
 use Rattle.text.proofs.Laws.{told-put, signed-same}

@@ -1,3 +1,4 @@
+-- `put_height`: the four arms are the four cases of the text, which is empty above 50,000,000.
 use mathlib.Core.Path.{sym}
 use Rattle.put.proofs.Laws.{put-same, put-nil}
 use Rattle.text.proofs.Laws.{text-dry, text-low, text-cm, text-over}

@@ -1,3 +1,4 @@
+-- `write_text`: a negative height has no text, and any other is its own size, whose text is put.
 use mathlib.Core.Path.{sym}
 use Rattle.put.proofs.Laws.{put-same, put-nil}
 use Rattle.text.proofs.Laws.{put-told, signed-none, signed-cast, signed-text}

@@ -1,3 +1,4 @@
+-- `both_ways`: the part is cut behind the eastward faces, and its two grids stand one behind the other.
 use mathlib.Core.Path.{_≡_, _∙_, sym}
 use Prim.Native.Nat.{ℕ, suc, _+_, _*_}
 use native.Mathlib.Omega.{arith}

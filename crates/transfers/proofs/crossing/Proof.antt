@@ -1,3 +1,4 @@
+-- `crossing`: what crosses is known to be at most 50,000,000 in size, so that the cast to 32 bits loses nothing.
 use mathlib.Core.Path.{_≡_, _∙_}
 use borrow.Author.Needs.{needs}
 use mir.Facts.{toZ-ofZ}

@@ -1,3 +1,4 @@
+-- `over_face`: nothing crosses a wall; an inner face has cells K and L, and the step limit bounds what crosses it.
 use mathlib.Core.Path.{_≡_, _∙_, sym, ap, ap₂, subst}
 use mathlib.Core.Bool.{not}
 use Prim.Native.Nat.{ℕ}

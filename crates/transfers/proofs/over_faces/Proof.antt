@@ -1,3 +1,4 @@
+-- `over_faces`: one turn stores what crosses one more face, row by row, until the part is the whole grid.
 use mathlib.Core.Path.{_≡_, _∙_, sym, ap₂}
 use Prim.Native.Nat.{ℕ, _*_, _-_}
 use native.Mathlib.Nat.{le-of-eq}

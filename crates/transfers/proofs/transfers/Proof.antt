@@ -1,3 +1,4 @@
+-- `transfers`: the part behind the heights is as long as all faces, and only that part is filled.
 use mathlib.Core.Path.{_∙_}
 use Prim.Native.Nat.{ℕ, _*_}
 use native.Mathlib.Omega.{arith}

@@ -1,3 +1,4 @@
+-- `new_velocity`: H' is tested before it divides; the bounds on A and on the slope keep the difference from wrapping.
 use mathlib.Core.Path.{_≡_, ap}
 use mathlib.Core.Bool.{true, false}
 use native.Mathlib.Omega.{arith}

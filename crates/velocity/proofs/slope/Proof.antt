@@ -1,3 +1,4 @@
+-- `slope`: the rise fits in 32 bits and the products in 64, the divisor is above 0, and `/` cuts towards zero as S does.
 use native.Mathlib.Omega.{arith}
 use mir.Syntax.{w32, w64}
 use Rattle.rules.specs.Step.{rise as Step·rise, slope}

@@ -1,3 +1,4 @@
+-- `speed_fits`: between the two ends is the same as a size of at most 20,000,000.
 use mathlib.Core.Path.{_∙_}
 use mir.Facts.{toZ-ofZ}
 use Rattle.velocity.proofs.Laws.{fits-yes, fits-no}

@@ -1,3 +1,4 @@
+-- `water_depth_text`: all is handed on, and the height reaches the writer as it was.
 use borrow.Author.Needs.{needs}
 use mir.Facts.{toZ-ofZ}
 use Rattle.water.proofs.water_depth_text.Statement.{statement}

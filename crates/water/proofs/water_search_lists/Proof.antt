@@ -1,3 +1,4 @@
+-- `water_search_lists`: all is handed on, and the depth reaches the search as it was.
 use borrow.Author.Needs.{needs}
 use mir.Facts.{toZ-ofZ}
 use Rattle.water.proofs.water_search_lists.Statement.{statement}

@@ -1,4 +1,4 @@
--- `velocities::faces::face` meets its contract.
+-- `face`: cells K and L lie on the site, so each of the eighteen places lies in its list, and its word is the number there.
 use mathlib.Core.Path.{_∙_}
 use native.Mathlib.Omega.{arith}
 use borrow.Author.Needs.{needs}

@@ -1,4 +1,4 @@
--- `velocities::words::above` meets its contract.
+-- `above`: the test is whether the next face abreast lies in the grid; where it does its velocity is read, and else it is 0.
 use mathlib.Core.Path.{_≡_, _∙_, sym}
 use mathlib.Core.Bool.{not, _&&_}
 use borrow.Author.Needs.{needs}

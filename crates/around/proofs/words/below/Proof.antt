@@ -1,4 +1,4 @@
--- `velocities::words::below` meets its contract.
+-- `below`: the picked number is above 0 exactly where there is a face before, whose velocity is read; else it is 0.
 use Prim.Native.Nat.{_<_}
 use mathlib.Core.Path.{_∙_, sym}
 use mathlib.Core.Bool.{cond}

@@ -1,4 +1,4 @@
--- `velocities::words::far` meets its contract.
+-- `far`: the far face lies in the grid, so that the cell's column and row are at most 128, and the word is read one place on.
 use mathlib.Core.Path.{_∙_}
 use mathlib.Core.Bool.{not}
 use native.Mathlib.Omega.{arith}

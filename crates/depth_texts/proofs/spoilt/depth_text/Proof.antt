@@ -1,3 +1,4 @@
+-- `depth_text`: the dot is set behind the part, so that the part is what was put; the contract says nothing of the rest.
 use mathlib.Core.Path.{_≡_, refl, sym, ap, _∙_}
 use native.Mathlib.Omega.{arith}
 use native.Mathlib.Nat.{le-refl}

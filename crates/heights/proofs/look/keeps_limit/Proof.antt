@@ -1,3 +1,4 @@
+-- `keeps_limit`: the four words that are read are the cell's velocities, each in its range, and the test over them is the limit.
 use mathlib.Core.Path.{_≡_, _∙_, ap}
 use mathlib.Core.Bool.{Bool, true, false}
 use mathlib.Core.List.{List}

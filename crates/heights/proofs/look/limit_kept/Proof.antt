@@ -1,3 +1,4 @@
+-- `limit_kept`: every cell before this one kept the limit, and one cell that breaks it decides for all.
 use mathlib.Core.Path.{sym, _∙_}
 use Prim.Native.Nat.{_-_}
 use native.Mathlib.Omega.{arith}

@@ -1,3 +1,4 @@
+-- `height_fits`: the word that is read is the height, and the test is the definition's.
 use borrow.Author.Needs.{needs}
 use Rattle.laws.specs.Signed.{word-is}
 use Rattle.heights.proofs.tide.height_fits.Statement.{statement}

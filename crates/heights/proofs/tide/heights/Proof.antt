@@ -1,3 +1,4 @@
+-- `heights`: one turn stores one more cell's new height at the front of the tide, and the transfers behind stay as they were.
 use mathlib.Core.Path.{_∙_}
 use Prim.Native.Nat.{_-_}
 use native.Mathlib.Omega.{arith}

@@ -1,3 +1,4 @@
+-- `heights_fit`: one turn gathers one more cell's test, row by row.
 use mathlib.Core.Bool.{Bool}
 use mathlib.Core.List.{List}
 use Prim.Native.Nat.{ℕ, _-_}

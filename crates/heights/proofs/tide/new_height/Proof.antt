@@ -1,3 +1,4 @@
+-- `new_height`: the tide's words at a cell's faces are its transfers, and the step limit keeps each at 50,000,000 or below in size.
 use mathlib.Core.Path.{_≡_, _∙_, ap, sym, subst}
 use mathlib.Core.Bool.{true, false}
 use Prim.Native.Nat.{ℕ, suc, _≤_}

@@ -1,3 +1,4 @@
+-- `cell_at`: a cell's four faces lie in the grids of their ways, so that each number is the one that is read there.
 use mathlib.Core.Path.{_∙_, ap}
 use Prim.Native.Nat.{ℕ}
 use native.Mathlib.Numerals.{add-one}

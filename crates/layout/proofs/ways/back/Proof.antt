@@ -1,3 +1,4 @@
+-- `back`: one is taken away only where the number is known to be above 0, and the test picks the definition's case.
 use Rattle.layout.specs.Ways.{back}
 use Rattle.layout.proofs.ways.back.Statement.{statement}
 use Rattle.layout.proofs.ways.back.Tie as tie

@@ -1,3 +1,4 @@
+-- `forth`: one addition to a number of at most 128, and the test picks the definition's case.
 use native.Mathlib.Numerals.{add-one}
 use borrow.Author.Needs.{needs}
 use Rattle.layout.specs.Ways.{forth}

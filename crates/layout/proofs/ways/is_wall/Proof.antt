@@ -1,3 +1,4 @@
+-- `is_wall`: two tests for each way, joined as the definition joins them.
 use borrow.Author.Needs.{needs}
 use Rattle.layout.specs.Ways.{isWall}
 use Rattle.layout.proofs.ways.is_wall.Statement.{statement}

@@ -1,3 +1,4 @@
+-- `side`: each arm returns the side that the definition has for that way.
 use Rattle.layout.specs.Ways.{side}
 use Rattle.layout.proofs.ways.side.Statement.{statement}
 use Rattle.layout.proofs.ways.side.Tie as tie

@@ -1,3 +1,4 @@
+-- `face_at`: a face's place by the start and the width of its way's grid lies in the list, and its word is what stands there.
 use mathlib.Core.Path.{_∙_}
 use borrow.Author.Needs.{needs}
 use Rattle.laws.specs.Signed.{word-is}

@@ -1,3 +1,4 @@
+-- `height_at`: the heights stand first in a state, row by row, so that a cell's place lies in the list and its word is the height.
 use borrow.Author.Needs.{needs}
 use mathlib.Core.Path.{_∙_}
 use Rattle.laws.specs.Signed.{word-is}

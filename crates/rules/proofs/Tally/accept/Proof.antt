@@ -1,3 +1,4 @@
+-- `accept`: fewer than 10,000 steps are done, so that one more fits; the top is the greater of two, whichever way the test goes.
 use mathlib.Core.Path.{_≡_, ap, sym}
 use mathlib.Core.Bool.{Bool, true, false, cond}
 use Prim.Native.Nat.{_+_}

@@ -1,3 +1,4 @@
+-- `read_large`: a front that passes leaves at most 65,792 words, and the longest draft has room for as many.
 use native.Mathlib.Omega.{arith}
 use borrow.Author.Needs.{needs}
 use Rattle.sheet.specs.Front.{front-facts}

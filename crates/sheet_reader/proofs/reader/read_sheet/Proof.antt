@@ -1,3 +1,4 @@
+-- `read_sheet`: a front that is refused gives the reader's number and leaves the lists as lent; else the values decide.
 use mathlib.Core.Path.{_∙_}
 use borrow.Author.Needs.{needs}
 use Rattle.sheet.specs.Front.{front-refused}

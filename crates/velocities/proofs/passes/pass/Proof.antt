@@ -1,4 +1,4 @@
--- `velocities::passes::pass` meets its contract.
+-- `pass`: every velocity so far fits and is stored in its place, and one that does not fit decides for all.
 use mathlib.Core.Path.{sym, _∙_}
 use Prim.Native.Nat.{_-_}
 use native.Mathlib.Nat.{le-refl}

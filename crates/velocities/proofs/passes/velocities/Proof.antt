@@ -1,4 +1,4 @@
--- `velocities::passes::velocities` meets its contract.
+-- `velocities`: the part is cut behind the eastward faces; both passes fit exactly where all velocities do, and then fill both grids.
 use Prim.Native.Nat.{suc, _+_, _*_, _≤_}
 use mathlib.Core.Path.{_≡_, _∙_, sym}
 use mathlib.Core.Bool.{or-false}

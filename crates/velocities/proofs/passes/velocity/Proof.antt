@@ -1,4 +1,4 @@
--- `velocities::passes::velocity` meets its contract.
+-- `velocity`: 0 on a wall; any other face has a cell behind it, and all the numbers around it are in their ranges.
 use mathlib.Core.Path.{_≡_, _∙_, sym, subst}
 use mathlib.Core.Bool.{false}
 use borrow.Author.Needs.{needs}

@@ -1,4 +1,4 @@
--- `velocities::shares::look` meets its contract.
+-- `look`: one turn gathers the test of one more inner face, and each has both its cells on the site.
 use Prim.Native.Nat.{_-_}
 use native.Mathlib.Omega.{arith}
 use borrow.Author.Needs.{needs}

@@ -1,4 +1,4 @@
--- `velocities::shares::share_fits` meets its contract.
+-- `share_fits`: the numbers around the face are in their ranges, so that the own share is exact, and the test is the definition's.
 use mathlib.Core.Path.{_∙_, ap, sym, subst}
 use borrow.Author.Needs.{needs}
 use lib.IntN.{ℤ, pos}

@@ -1,4 +1,4 @@
--- `velocities::shares::shares_fit` meets its contract.
+-- `shares_fit`: the eastward look and then the northward one, joined as the definition joins them.
 use mathlib.Core.Path.{sym, _∙_}
 use borrow.Author.Needs.{needs}
 use borrow.Author.Tests.{not-true, not-false}
