@@ -1,6 +1,6 @@
 -- The reader's numbers and outcomes, as its functions come to them.
 use Prim.Native.Nat.{ℕ, _+_, _*_, _-_, _≤_}
-use mathlib.Core.Path.{_≡_, sym, ap, ap₂, _∙_}
+use mathlib.Core.Path.{_≡_, sym, ap, ap₂, _∙_, subst}
 use mathlib.Core.Bool.{true, false}
 use mathlib.Core.List.{List, _++_}
 use native.Mathlib.Omega.{arith}
@@ -19,7 +19,7 @@ use Rattle.laws.specs.Outcomes.{if-refused, if-same}
 use Rattle.laws.specs.Parts.{back-length}
 use Rattle.laws.specs.Words.{in-add}
 use Rattle.laws.specs.Sheets.{size-words, size-facts, read-facts, length-ground-in, read-number-is}
-use Rattle.sheet.specs.Front.{frontNumber, Front, front-facts}
+use Rattle.sheet.specs.Front.{Front}
 use Rattle.sheet_reader.specs.Values.{sheetValuesFit}
 use Rattle.sheet_reader.specs.Lent.{Joined, WordsRoom, Decided}
 
@@ -84,26 +84,23 @@ words-checked l c w n p q r =
 -- ---- a sheet whose values decide, and room for its words
 
 module _ (l : List ℕ) (n : ℕ) (words : List ℤ) (r : WordsRoom l n words) where
-  ready : Front l n (length words - n)
-  ready = front-facts l n (length words - n) (r .front)
-
   whole : n + (length words - n) ≡ length words
   whole = let w = r .within in omega arith
 
   pub room-long : 19 + 4 * length words ≤ length l
-  room-long = let w = whole in let k = long l n (length words - n) ready in omega arith
+  room-long = let w = whole in let k = long l n (length words - n) (r .front) in omega arith
 
   pub room-ground : n ≡ length (groundIn l)
-  room-ground = size-facts l n (length words - n) (ready .lengths) .ground ∙ sym (length-ground-in l)
+  room-ground = size-facts l n (length words - n) (r .front .lengths) .ground ∙ sym (length-ground-in l)
 
   pub room-words : (w : List ℤ) → w ≡ wordsIn (length words) (drop 19 l) → w ≡ groundIn l ++ stateIn l
-  room-words w e = e ∙ ap (λ (k : ℕ). wordsIn k (drop 19 l)) (sym whole) ∙ joined l n (length words - n) ready
+  room-words w e = e ∙ ap (λ (k : ℕ). wordsIn k (drop 19 l)) (sym whole) ∙ joined l n (length words - n) (r .front)
 
   pub room-joined : (c : Card) (w : List ℤ) → c ≡ cardIn l → length w ≡ length words → Joined c w n
   room-joined c w p q =
-      let s = size-facts l n (length words - n) (ready .lengths) in
+      let s = size-facts l n (length words - n) (r .front .lengths) in
       record {
-        card = ap cardFits p ∙ ready .card;
+        card = ap cardFits p ∙ r .front .card;
         ground = s .ground ∙ ap (λ (x : Card). x .rows * x .columns) (sym p);
         both = q ∙ sym whole ∙ ap (λ (k : ℕ). n + k) (s .state ∙ ap stateLength (sym p));
       }
@@ -111,16 +108,13 @@ module _ (l : List ℕ) (n : ℕ) (words : List ℤ) (r : WordsRoom l n words) w
 -- ---- a sheet whose values decide
 
 module _ (l : List ℕ) (n m : ℕ) (d : List ℤ) (k : Decided l n m d) where
-  pub decided : Front l n m
-  decided = front-facts l n m (k .front)
-
   -- the part of the draft that is to hold its words
   pub look-room : WordsRoom l n (take (n + m) d)
   look-room =
       let r = k .room in
       let w : length (take (n + m) d) ≡ n + m = length-take-le (n + m) d r in
       let j : length (take (n + m) d) - n ≡ m = omega arith in
-      record { within = omega arith; front = ap (frontNumber l n) j ∙ k .front }
+      record { within = omega arith; front = subst (Front l n) (sym j) (k .front) }
 
 -- ---- the outcome
 

@@ -5,7 +5,7 @@ ghost use lib.ListN.{length};
 ghost use Rattle.rules.specs.Site.{ifDone};
 ghost use Rattle.rules.specs.Sheet.{cardIn, noCard};
 ghost use Rattle.rules.specs.Contracts.{ReadContract};
-ghost use Rattle.sheet.specs.Front.{frontNumber};
+ghost use Rattle.sheet.specs.Front.{Front};
 ghost use Rattle.sheet_reader.specs.Lent.{Decided, Small};
 use crate::draft;
 use rules::Card;
@@ -60,7 +60,7 @@ fn read_small(sheet: &[u8], ground: &mut [i32], state: &mut [i32]) -> Heard
 
 // The reader over a draft that holds any site.
 fn read_large(sheet: &[u8], ground: &mut [i32], state: &mut [i32]) -> Heard
-    requires { ⌜ frontNumber (now sheet) (length (now ground)) (length (now state)) ≡ 0 ⌝ }
+    requires { ⌜ Front (now sheet) (length (now ground)) (length (now state)) ⌝ }
     ensures { λ r. ⌜ ReadContract (now (sheet .entry)) (now (ground .entry)) (now (state .entry)) r (now (ground .exit)) (now (state .exit)) ⌝ }
 {
     let mut words = draft::longest();
@@ -70,7 +70,7 @@ fn read_large(sheet: &[u8], ground: &mut [i32], state: &mut [i32]) -> Heard
 // The reader over a draft that has room for so many words; where the lists have more, it calls itself for the longest draft. As in a step, this keeps the draft
 // out of the stack frame of a sheet that is refused by its front, and the long one out of that of a small site.
 fn read_within(sheet: &[u8], ground: &mut [i32], state: &mut [i32], room: usize) -> Heard
-    requires { ⌜ frontNumber (now sheet) (length (now ground)) (length (now state)) ≡ 0 ⌝ }
+    requires { ⌜ Front (now sheet) (length (now ground)) (length (now state)) ⌝ }
     ensures { λ r. ⌜ ReadContract (now (sheet .entry)) (now (ground .entry)) (now (state .entry)) r (now (ground .exit)) (now (state .exit)) ⌝ }
 {
     if ground.len() + state.len() > room {

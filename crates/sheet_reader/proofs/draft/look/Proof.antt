@@ -4,7 +4,7 @@ use Prim.Native.Nat.{_+_}
 use native.Mathlib.Nat.{suc-ne-zero}
 use lib.Seq.{length-take-le, take-at}
 use borrow.Author.Tests.{not-true, not-false}
-use Rattle.sheet_reader.proofs.Reading.{decided, look-room, number-3, number-0}
+use Rattle.sheet_reader.proofs.Reading.{look-room, number-3, number-0}
 use borrow.Author.Needs.{needs}
 use Rattle.sheet_reader.proofs.draft.look.Statement.{statement}
 use Rattle.sheet_reader.proofs.draft.look.Tie as tie
@@ -30,7 +30,7 @@ returns : tie.Need-returns
 returns c =
     let w = c .before .before in
     let a = w .before .before .before in
-    (number-3 _ _ _ (decided _ _ _ _ (a .pre)) (sym (w .read-words .ensures .0) ∙ not-true _ (c .if1 .taken)), λ z. absurd (suc-ne-zero 2 z))
+    (number-3 _ _ _ (a .pre .front) (sym (w .read-words .ensures .0) ∙ not-true _ (c .if1 .taken)), λ z. absurd (suc-ne-zero 2 z))
 
 same-length-2 : tie.Need-same-length-2
 same-length-2 c = search needs
@@ -40,7 +40,7 @@ returns-2 c =
     let w = c .before .before in
     let a = w .before .before .before in
     let k = w .read-words .kept .1 .1 .0 ∙ length-take-le (a .args .n + a .args .m) (a .args .draft .now) (a .pre .room) in
-    (number-0 _ _ _ (decided _ _ _ _ (a .pre)) (sym (w .read-words .ensures .0) ∙ not-false _ (c .if1 .left)), λ z. take-at _ _ (a .args .n + a .args .m) k ∙ w .read-words .ensures .1)
+    (number-0 _ _ _ (a .pre .front) (sym (w .read-words .ensures .0) ∙ not-false _ (c .if1 .left)), λ z. take-at _ _ (a .args .n + a .args .m) k ∙ w .read-words .ensures .1)
 
 pub look-spec : {M : Type 1} → statement M
 look-spec =

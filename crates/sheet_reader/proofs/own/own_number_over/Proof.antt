@@ -5,7 +5,7 @@ use borrow.Author.Tests.{not-true, not-false}
 use Rattle.rules.specs.Site.{cells, stateLength, cardFits}
 use Rattle.rules.specs.Sheet.{cardIn, headFits, readNumber}
 use Rattle.laws.specs.Sheets.{head-facts}
-use Rattle.sheet.specs.Front.{front-9, front-1, front-told, front-refused}
+use Rattle.sheet.specs.Front.{front-9, front-1, front-told, front-refused, front-facts}
 use borrow.Author.Needs.{needs}
 use Rattle.sheet_reader.proofs.own.own_number_over.Statement.{statement}
 use Rattle.sheet_reader.proofs.own.own_number_over.Tie as tie
@@ -57,7 +57,7 @@ returns-3 c =
     f .front-number .ensures ∙ front-refused _ _ _ (λ z. c .if3 .taken (f .front-number .ensures ∙ z)) ∙ own (f .before)
 
 look-requires : tie.Need-look-requires
-look-requires c κs = search needs
+look-requires c κs = record { front = front-facts _ _ _ (search needs); room = search needs }
 
 same-length : tie.Need-same-length
 same-length c = search needs

@@ -5,7 +5,6 @@ use lib.ListN.{length}
 use borrow.Author.Needs.{needs}
 use borrow.Fn.Kinds.{In}
 use borrow.Fn.PlainCycle.{Measures, is, falls, and}
-use Rattle.sheet.specs.Front.{front-facts}
 use Rattle.sheet_reader.proofs.Reading.{few}
 use Rattle.sheet_reader.proofs.reader.read_within.Reads as own
 use Rattle.sheet_reader.proofs.reader.read_within.Kinds as kinds
@@ -28,7 +27,7 @@ claims t = (and 3 kinds.ps (falls 3 kinds.ps _<_ lacking t) own.Pre, own.Post, s
 again : (t : ℕ) → lts.Need-read-within-requires (claims t) (at t) own.Post
 again t c κs =
     let start = c .before .before .before .before in
-    (omega (arith, few _ _ _ (front-facts _ _ _ (start .pre .1))), search needs)
+    (omega (arith, few _ _ _ (start .pre .1)), search needs)
 
 pub +read-within-spec : {M : Type 1} → statement M
 +read-within-spec =

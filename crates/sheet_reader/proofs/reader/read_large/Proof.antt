@@ -1,7 +1,6 @@
 -- `read_large`: a front that passes leaves at most 65,792 words, and the longest draft has room for as many.
 use native.Mathlib.Omega.{arith}
 use borrow.Author.Needs.{needs}
-use Rattle.sheet.specs.Front.{front-facts}
 use Rattle.sheet_reader.proofs.Reading.{few}
 use Rattle.sheet_reader.proofs.reader.read_large.Statement.{statement}
 use Rattle.sheet_reader.proofs.reader.read_large.Tie as tie
@@ -15,7 +14,7 @@ slice-aggregate-read-over c = search needs
 read-over-requires : tie.Need-read-over-requires
 read-over-requires c κs =
     let start = c .before .before .before .before .before in
-    record { front = start .pre; room = omega (arith, few _ _ _ (front-facts _ _ _ (start .pre)), c .before .before .before .longest .ensures) }
+    record { front = start .pre; room = omega (arith, few _ _ _ (start .pre), c .before .before .before .longest .ensures) }
 
 same-length : tie.Need-same-length
 same-length c = search needs

@@ -8,7 +8,6 @@ use lib.ListN.{length}
 use Rattle.lists.specs.Renewed.{renewed}
 use Rattle.laws.specs.Parts.{back-is, back-length}
 use Rattle.laws.specs.Sheets.{head-facts}
-use Rattle.sheet.specs.Front.{front-facts}
 use Rattle.sheet_reader.proofs.Reading.{answered, ground-renewed, state-renewed}
 use borrow.Author.Needs.{needs}
 use Rattle.sheet_reader.proofs.reader.read_over.Statement.{statement}
@@ -59,7 +58,7 @@ renew-requires-2 c κs =
 
 card-with-requires : tie.Need-card-with-requires
 card-with-requires c κs =
-    head-facts _ (front-facts _ _ _ (start (looked (filled (c .before))) .pre .front) .head) .long
+    head-facts _ (start (looked (filled (c .before))) .pre .front .head) .long
 
 same-length : tie.Need-same-length
 same-length c = search needs

@@ -1,7 +1,7 @@
 -- `read_sheet`: a front that is refused gives the reader's number and leaves the lists as lent; else the values decide.
 use mathlib.Core.Path.{_∙_}
 use borrow.Author.Needs.{needs}
-use Rattle.sheet.specs.Front.{front-refused}
+use Rattle.sheet.specs.Front.{front-refused, front-facts}
 use Rattle.sheet_reader.proofs.Reading.{refused}
 use Rattle.sheet_reader.proofs.reader.read_sheet.Statement.{statement}
 use Rattle.sheet_reader.proofs.reader.read_sheet.Tie as tie
@@ -20,7 +20,7 @@ returns c =
     refused (a .sheet .now) (a .ground .now) (a .state .now) (f .front-number .result) number (c .no-card .result) (c .no-card .ensures) (c .before .if1 .taken)
 
 read-within-requires : tie.Need-read-within-requires
-read-within-requires c κs = search needs
+read-within-requires c κs = front-facts _ _ _ (search needs)
 
 same-length : tie.Need-same-length
 same-length c = search needs
