@@ -4,7 +4,7 @@ ghost use lib.IntN.{pos, _-ℤ_};
 ghost use Rattle.rules.specs.Sheet.{bitsOf, valueOf};
 ghost use Rattle.bits.specs.Lowered.{Lowered};
 
-// A cast of a negative number is undefined, so the bits are made by differences.
+// The bits of a word. A cast of a negative number is undefined, so they are made by differences.
 pub fn bits_of(z: i32) -> u32
     ensures { λ r. ⌜ r ≡ bitsOf z ⌝ }
 {
@@ -23,6 +23,7 @@ fn less(z: i32, n: u32) -> i32
     z - n as i32
 }
 
+// The word that has these bits.
 pub fn value_of(b: u32) -> i32
     ensures { λ r. ⌜ r ≡ valueOf b ⌝ }
 {

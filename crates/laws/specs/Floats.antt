@@ -1,6 +1,6 @@
 -- Floats of which the sign of a 0, or a 0 that is added or taken away, tells nothing: a float that its format holds compares as it did.
 use mathlib.Core.Path.{_≡_, refl, sym, ap, _∙_, subst}
-use mathlib.Core.Bool.{Bool, true, false, not, _&&_, _||_, cond}
+use mathlib.Core.Bool.{Bool, true, false, not, _&&_, _||_, cond, and-self, and-true}
 use Prim.Native.Nat.{ℕ, zero, suc, _+_, _-_, _*_, _/_, _%_, _^_, _≤_, _<_, zero-le}
 use native.Mathlib.Nat.{mul-one, one-mul, mul-assoc, mul-comm, mul-right-comm, zero-mul, zero-add, add-zero, sub-zero, mul-pos, zero-lt-suc, mul-lt-mul-of-pos-right, lt-of-mul-lt-mul-right, lt-irrefl, lt-of-lt-of-le}
 use native.Mathlib.Omega.{arith}
@@ -24,17 +24,16 @@ not-below-zero : (b : ℕ) → ltb b 0 ≡ false
 not-below-zero b = le-ltb b 0 zero-le
 
 twice : (a : Bool) → (a && a) ≡ (a && true)
-twice true = refl
-twice false = refl
+twice a = and-self a ∙ sym (and-true a)
 
-pub zero-low : (e : ℤ) (v : Float) → le (fin true 0 e) v ≡ le (fin false 0 e) v
+zero-low : (e : ℤ) (v : Float) → le (fin true 0 e) v ≡ le (fin false 0 e) v
 unfolding le lt eq
 zero-low e nan = refl
 zero-low e (inf s) = refl
 zero-low e (fin false k d) = rw (at-zero e d, zero-add (k * up d * down e))
 zero-low e (fin true k d) = rw (at-zero e d, not-below-zero (k * up d * down e))
 
-pub zero-high : (e : ℤ) (v : Float) → le v (fin true 0 e) ≡ le v (fin false 0 e)
+zero-high : (e : ℤ) (v : Float) → le v (fin true 0 e) ≡ le v (fin false 0 e)
 unfolding le lt eq
 zero-high e nan = refl
 zero-high e (inf s) = refl
@@ -55,6 +54,12 @@ as-equal e = record { low = λ v. ap (λ z. le z v) e; high = λ v. ap (λ z. le
 
 through : {x y z : Float} → Alike x y → Alike y z → Alike x z
 through a b = record { low = λ v. a .low v ∙ b .low v; high = λ v. a .high v ∙ b .high v }
+
+back : {x y : Float} → Alike x y → Alike y x
+back a = record { low = λ v. sym (a .low v); high = λ v. sym (a .high v) }
+
+pub zero-alike : (e : ℤ) → Alike (fin true 0 e) (fin false 0 e)
+zero-alike e = record { low = zero-low e; high = zero-high e }
 
 -- ---- What a format holds rounds to itself
 
@@ -105,7 +110,7 @@ module _ (f : Format) where
         ap (λ (b : Bool). toBits f (fin b k d)) (v .0) ∙ ap (λ (n : ℕ). cond s (top f) 0 + (size n - prec f) * hid f + n / 2 ^ (size n - prec f)) size-is in
         sym (ofBits-toBits f (fin t k d) g) ∙ ap (ofBits f) bits ∙ ofBits-toBits f (fin s m e) h
 
-    pub round-own : (m : ℕ) (e : ℤ) → T (fits f (fin s m e)) → round f s (m * up e) (down e) ≡ fin s m e
+    round-own : (m : ℕ) (e : ℤ) → T (fits f (fin s m e)) → round f s (m * up e) (down e) ≡ fin s m e
     round-own m e h = one-float (round f s (m * up e) (down e)) m e (round-fits f s (m * up e) (down e)) h (exact m e h)
 
   -- ---- 0 added or taken away
@@ -144,7 +149,7 @@ module _ (f : Format) where
   and-zero (fin true zero e) h =
       through
       (as-equal (plus-zero true 0 e ∙ other-sign true (0 * up e) (down e) ∙ ap (λ (b : Bool). round f b (0 * up e) (down e)) (ap (ltb 0) (zero-mul (up e))) ∙ round-own false 0 e h))
-      (record { low = λ v. sym (zero-low e v); high = λ v. sym (zero-high e v) })
+      (back (zero-alike e))
   and-zero (fin true (suc m) e) h =
       as-equal (plus-zero true (suc m) e ∙ other-sign true (suc m * up e) (down e) ∙ ap (λ (b : Bool). round f b (suc m * up e) (down e)) (lt-ltb 0 (suc m * up e) (mul-pos (zero-lt-suc m) (up-pos e))) ∙ round-own true (suc m) e h)
 

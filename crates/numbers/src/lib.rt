@@ -6,6 +6,7 @@ ghost use Rattle.rules.specs.Sheet.{numberIn, bytesOf};
 ghost use Rattle.laws.specs.Laid.{laid};
 ghost use Rattle.numbers.specs.Asked.{BytesAt};
 
+// A byte as a number.
 pub fn widened(x: u8) -> u32
     ensures { λ r. ⌜ r ≡ x ⌝ }
 {

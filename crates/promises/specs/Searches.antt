@@ -12,7 +12,7 @@ use lib.IntN.{ℤ, pos, natAbs}
 use lib.Signed.{leZ}
 use lib.ListN.{length, getD, drop, length-append, length-drop, List·getD-append}
 use lib.Seq.{getD-append-add, getD-drop}
-use lib.Ieee.{Float, binary64, lt, le, ofBits}
+use lib.Ieee.{Float, binary64, lt, ofBits}
 use borrow.Author.Tests.{le-leb, leb-true, leb-false}
 use Rattle.rules.specs.declared.Card.{Card}
 use Rattle.rules.specs.declared.Window.{Window}
@@ -25,7 +25,7 @@ use Rattle.laws.specs.Sheets.{passed}
 use Rattle.laws.specs.Along.{along-whole, along-high, all-along, reach-high}
 use Rattle.laws.specs.Asked.{asked-facts, places-passed, number-passed}
 use Rattle.laws.specs.Rising.{rising, sound, complete, places-empty}
-use Rattle.laws.specs.Floats.{zero-low, zero-high}
+use Rattle.laws.specs.Floats.{Alike, alike, zero-alike}
 use Rattle.promises.specs.Refused.{search-refused}
 use Rattle.promises.specs.Edges.{atMost, atLeast, low-exact, high-exact, none-in-order}
 
@@ -241,13 +241,9 @@ pub record SameWindow (w v : Window) : Type 0 where
   pub east : SameEdge (w .east) (v .east)
   pub north : SameEdge (w .north) (v .north)
 
-same-low : {x y : Float} → SameEdge x y → (v : Float) → le x v ≡ le y v
-same-low (same x) v = refl
-same-low signed-zero v = unfold minusZero plusZero ofBits in zero-low _ v
-
-same-high : {x y : Float} → SameEdge x y → (v : Float) → le v x ≡ le v y
-same-high (same x) v = refl
-same-high signed-zero v = unfold minusZero plusZero ofBits in zero-high _ v
+no-test-tells : {x y : Float} → SameEdge x y → Alike x y
+no-test-tells (same x) = alike x
+no-test-tells signed-zero = unfold minusZero plusZero ofBits in zero-alike _
 
 same-finite : {x y : Float} → SameEdge x y → isFinite x ≡ isFinite y
 same-finite (same x) = refl
@@ -257,7 +253,7 @@ module _ {w v : Window} (m : SameWindow w v) where
   same-inside : (x y : ℤ) → inside w x y ≡ inside v x y
   unfolding inside
   same-inside x y =
-      ap₂ _&&_ (ap₂ _&&_ (same-low (m .west) (asFloat x)) (same-high (m .east) (asFloat x))) (ap₂ _&&_ (same-low (m .south) (asFloat y)) (same-high (m .north) (asFloat y)))
+      ap₂ _&&_ (ap₂ _&&_ (no-test-tells (m .west) .low (asFloat x)) (no-test-tells (m .east) .high (asFloat x))) (ap₂ _&&_ (no-test-tells (m .south) .low (asFloat y)) (no-test-tells (m .north) .high (asFloat y)))
 
   same-edges : edgesFinite w ≡ edgesFinite v
   unfolding edgesFinite
