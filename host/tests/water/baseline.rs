@@ -13,20 +13,22 @@ use water::raw::{Chamber, Window};
 #[test]
 fn steps_and_runs() {
     let mut given = Given::default();
-    let mut plain = plain::Plain::new();
+    let (mut dividing, mut skipping) = (plain::Plain::<false>::new(), plain::Plain::<true>::new());
     trials("plain steps", 6_000, |rng| {
         let site = wild::any(rng);
         let mut next = room(rng, site.state.len());
-        let mut expected = next.clone();
-        let number = plain.step(site.card, &site.ground, &site.state, &mut next);
-        assert_eq!(number, model::step(site.card, &site.ground, &site.state, &mut expected));
-        assert!(next == expected);
+        let (mut skipped, mut expected) = (next.clone(), next.clone());
+        let number = model::step(site.card, &site.ground, &site.state, &mut expected);
+        assert_eq!(dividing.step(site.card, &site.ground, &site.state, &mut next), number);
+        assert_eq!(skipping.step(site.card, &site.ground, &site.state, &mut skipped), number);
+        assert!(next == expected && skipped == expected);
         given.count(number);
-        let (mut state, mut scratch) = (site.state.clone(), room(rng, site.state.len()));
-        let (mut expected, mut expected_scratch) = (site.state.clone(), scratch.clone());
-        let tally = plain.run(site.card, &site.ground, &mut state, &mut scratch);
-        assert_eq!(tally, model::run(site.card, &site.ground, &mut expected, &mut expected_scratch));
-        assert!(state == expected && scratch == expected_scratch);
+        let lists = (site.state.clone(), room(rng, site.state.len()));
+        let (mut divided, mut skipped, mut expected) = (lists.clone(), lists.clone(), lists);
+        let tally = model::run(site.card, &site.ground, &mut expected.0, &mut expected.1);
+        assert_eq!(dividing.run(site.card, &site.ground, &mut divided.0, &mut divided.1), tally);
+        assert_eq!(skipping.run(site.card, &site.ground, &mut skipped.0, &mut skipped.1), tally);
+        assert!(divided == expected && skipped == expected);
     });
     given.assert_often("plain steps", &[0, 1, 2, 3, 4, 5, 7], 60);
 }

@@ -1,16 +1,10 @@
-//! Two ways of doing the same work, measured turn by turn in one process.
+//! Several ways of doing the same work, measured turn by turn in one process.
 
 use std::time::Instant;
 
 const ROUNDS: usize = 41;
 // a measurement lasts at least this long, so that the clock's own grain does not show
-const LEAST: u128 = 300_000;
-
-/// The medians in nanoseconds of one call of each.
-pub struct Medians {
-    pub ours: f64,
-    pub plain: f64,
-}
+const LEAST: f64 = 300_000.0;
 
 /// Keeps the compiler from seeing that a result is not used, or that the same work was done before.
 pub fn seen<T>(thing: &mut T) {
@@ -31,21 +25,17 @@ fn median(mut times: Vec<f64>) -> f64 {
     times[times.len() / 2]
 }
 
-/// Measures both in turn, in rounds, the first of each round by turns.
-pub fn compare(ours: &mut dyn FnMut(), plain: &mut dyn FnMut()) -> Medians {
+/// The medians in nanoseconds of one call of each. They are measured in rounds; each round begins with another one.
+pub fn compare<const WAYS: usize>(mut works: [&mut dyn FnMut(); WAYS]) -> [f64; WAYS] {
     let mut times = 1;
-    while measure(ours, times).max(measure(plain, times)) as u128 * u128::from(times) < LEAST {
+    while works.iter_mut().any(|work| (measure(work, times) * f64::from(times)) < LEAST) {
         times *= 2;
     }
-    let (mut our_times, mut plain_times) = (Vec::new(), Vec::new());
+    let mut measured = [(); WAYS].map(|()| Vec::new());
     for round in 0..ROUNDS {
-        if round % 2 == 0 {
-            our_times.push(measure(ours, times));
-        }
-        plain_times.push(measure(plain, times));
-        if round % 2 == 1 {
-            our_times.push(measure(ours, times));
+        for way in (0..WAYS).map(|turn| (round + turn) % WAYS) {
+            measured[way].push(measure(works[way], times));
         }
     }
-    Medians { ours: median(our_times), plain: median(plain_times) }
+    measured.map(median)
 }

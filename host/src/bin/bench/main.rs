@@ -1,6 +1,7 @@
 //! The benchmark: each call of the library as a ratio to the same work in plain Rust, same input, same process, turn by turn.
 //!
-//! `cargo run --release --bin bench` prints one table. Both must give the same answers and lists, or it stops.
+//! `cargo run --release --bin bench` prints two tables, that of step and run and that of the other calls. A step in plain Rust always divides, or, in the second
+//! column, skips a division where what it would divide is 0. All must give the same answers and lists, or it stops.
 //! `cargo run --release --bin bench long` runs 10,000 steps on 128×128 and prints what a step costs along the way.
 
 mod clock;
@@ -8,8 +9,9 @@ mod machine;
 mod plain;
 mod sites;
 
-use clock::{compare, seen, Medians};
-use sites::{pond, register, Measured};
+use clock::{compare, seen};
+use plain::Plain;
+use sites::{register, site, Measured, Water};
 use std::time::Instant;
 use water::raw::{Card, Window};
 use water::{calls, Refusal};
@@ -21,52 +23,65 @@ fn number<T>(answer: &Result<T, Refusal>) -> u32 {
     }
 }
 
-fn row(work: &str, size: u32, water: &str, per: f64, medians: Medians) {
-    let (ours, plain) = (medians.ours / per / 1e3, medians.plain / per / 1e3);
-    println!("| {work} | {size}×{size} | {water} | {ours:.2} | {plain:.2} | {:.2} |", ours / plain);
+/// One row: our time and each other one, in µs, with the ratio to it.
+fn row<const WAYS: usize>(work: &str, size: u32, water: &str, per: f64, medians: [f64; WAYS]) {
+    let times = medians.map(|median| median / per / 1e3);
+    print!("| {work} | {size}×{size} | {water} | {:.2} |", times[0]);
+    for plain in &times[1..] {
+        print!(" {plain:.2} | {:.2} |", times[0] / plain);
+    }
+    println!();
 }
 
 fn bench_step(site: &Measured, water: &str) {
     let Measured { card, ground, state } = site;
-    let (mut next, mut plain_next) = (vec![0; state.len()], vec![0; state.len()]);
-    let mut plain = plain::Plain::new();
-    assert_eq!(calls::step(*card, ground, state, &mut next), Ok(()));
-    assert_eq!(plain.step(*card, ground, state, &mut plain_next), 0);
-    assert!(next == plain_next, "both step alike");
-    let medians = compare(
+    let (mut next, mut dividing_next, mut skipping_next) = (vec![0; state.len()], vec![0; state.len()], vec![0; state.len()]);
+    let (mut dividing, mut skipping) = (Plain::<false>::new(), Plain::<true>::new());
+    let medians = compare([
         &mut || {
             assert!(calls::step(*card, ground, state, &mut next).is_ok());
             seen(&mut next);
         },
         &mut || {
-            assert_eq!(plain.step(*card, ground, state, &mut plain_next), 0);
-            seen(&mut plain_next);
+            assert_eq!(dividing.step(*card, ground, state, &mut dividing_next), 0);
+            seen(&mut dividing_next);
         },
-    );
+        &mut || {
+            assert_eq!(skipping.step(*card, ground, state, &mut skipping_next), 0);
+            seen(&mut skipping_next);
+        },
+    ]);
+    assert!(next == dividing_next && next == skipping_next, "all step alike");
     row("step", card.columns, water, 1.0, medians);
 }
 
 fn bench_run(site: &Measured, water: &str, steps: u32) {
     let Measured { ground, state: start, .. } = site;
     let card = Card { steps, ..site.card };
-    let (mut state, mut scratch) = (start.clone(), vec![0; start.len()]);
-    let (mut plain_state, mut plain_scratch) = (start.clone(), vec![0; start.len()]);
-    let mut plain = plain::Plain::new();
-    let medians = compare(
+    let lists = || (start.clone(), vec![0; start.len()]);
+    let (mut ours, mut divided, mut skipped) = (lists(), lists(), lists());
+    let (mut dividing, mut skipping) = (Plain::<false>::new(), Plain::<true>::new());
+    let medians = compare([
         &mut || {
-            state.copy_from_slice(start);
-            let tally = calls::run(card, ground, &mut state, &mut scratch);
+            ours.0.copy_from_slice(start);
+            let tally = calls::run(card, ground, &mut ours.0, &mut ours.1);
             assert_eq!((tally.steps, tally.reason), (steps, None));
-            seen(&mut state);
+            seen(&mut ours);
         },
         &mut || {
-            plain_state.copy_from_slice(start);
-            let tally = plain.run(card, ground, &mut plain_state, &mut plain_scratch);
+            divided.0.copy_from_slice(start);
+            let tally = dividing.run(card, ground, &mut divided.0, &mut divided.1);
             assert_eq!((tally.steps, tally.reason), (steps, 0));
-            seen(&mut plain_state);
+            seen(&mut divided);
         },
-    );
-    assert!(state == plain_state && scratch == plain_scratch, "both run alike");
+        &mut || {
+            skipped.0.copy_from_slice(start);
+            let tally = skipping.run(card, ground, &mut skipped.0, &mut skipped.1);
+            assert_eq!((tally.steps, tally.reason), (steps, 0));
+            seen(&mut skipped);
+        },
+    ]);
+    assert!(ours == divided && ours == skipped, "all run alike");
     row("run, a step", card.columns, water, f64::from(steps), medians);
 }
 
@@ -78,7 +93,7 @@ fn bench_search(site: &Measured, water: &str) {
     let window = Window { west: 0.1 * width, south: 0.1 * width, east: 0.9 * width, north: 0.9 * width };
     let depth = 2_000_000;
     let (mut found, mut plain_found) = (vec![0; 1_000], vec![0; 1_000]);
-    let medians = compare(
+    let medians = compare([
         &mut || {
             let answer = calls::search(*card, ground, state, &chambers, window, depth, &mut found);
             assert_eq!(number(&answer), 0);
@@ -89,10 +104,10 @@ fn bench_search(site: &Measured, water: &str) {
             assert_eq!(answer.number, 0);
             seen(&mut plain_found);
         },
-    );
+    ]);
     assert!(found == plain_found && found.iter().any(|&place| place > 0), "both search alike");
     row("search, 1,000 records", card.columns, water, 1.0, medians);
-    let medians = compare(
+    let medians = compare([
         &mut || {
             let answer = calls::search_lists(*card, ground, state, &xs, &ys, window, depth, &mut found);
             assert_eq!(number(&answer), 0);
@@ -103,7 +118,7 @@ fn bench_search(site: &Measured, water: &str) {
             assert_eq!(answer.number, 0);
             seen(&mut plain_found);
         },
-    );
+    ]);
     assert!(found == plain_found, "both search alike");
     row("search, two lists of 1,000", card.columns, water, 1.0, medians);
 }
@@ -111,7 +126,7 @@ fn bench_search(site: &Measured, water: &str) {
 fn bench_sheet(site: &Measured, water: &str) {
     let Measured { card, ground, state } = site;
     let (mut sheet, mut plain_sheet) = (vec![0; card.sheet_size()], vec![0; card.sheet_size()]);
-    let medians = compare(
+    let medians = compare([
         &mut || {
             assert!(calls::write_sheet(*card, ground, state, &mut sheet).is_ok());
             seen(&mut sheet);
@@ -120,11 +135,11 @@ fn bench_sheet(site: &Measured, water: &str) {
             assert_eq!(plain::write_sheet(*card, ground, state, &mut plain_sheet).number, 0);
             seen(&mut plain_sheet);
         },
-    );
+    ]);
     assert!(sheet == plain_sheet, "both write alike");
     row("write a sheet", card.columns, water, 1.0, medians);
     let (mut ours, mut plain) = ((vec![0; ground.len()], vec![0; state.len()]), (vec![0; ground.len()], vec![0; state.len()]));
-    let medians = compare(
+    let medians = compare([
         &mut || {
             assert!(calls::read_sheet(&sheet, &mut ours.0, &mut ours.1).is_ok());
             seen(&mut ours);
@@ -133,16 +148,16 @@ fn bench_sheet(site: &Measured, water: &str) {
             assert_eq!(plain::read_sheet(&sheet, &mut plain.0, &mut plain.1).number, 0);
             seen(&mut plain);
         },
-    );
+    ]);
     assert!(ours == plain && ours.0 == *ground && ours.1 == *state, "both read alike");
     row("read a sheet", card.columns, water, 1.0, medians);
 }
 
 /// The longest run there is, in slices of 1,000 steps: a step must not get slower along the way.
 fn long_run() {
-    let Measured { ground, mut state, card } = pond(128, true);
+    let Measured { ground, mut state, card } = site(128, Water::Moving);
     let (mut scratch, mut plain_state, mut plain_scratch) = (vec![0; state.len()], state.clone(), vec![0; state.len()]);
-    let mut plain = plain::Plain::new();
+    let mut plain = Plain::<false>::new();
     let card = Card { steps: 1_000, ..card };
     println!("| steps | ours, µs a step | plain Rust, µs a step | ratio |");
     println!("|---|---|---|---|");
@@ -169,17 +184,20 @@ fn main() {
     if std::env::args().any(|word| word == "long") {
         return long_run();
     }
-    println!("| work | site | water | ours, µs | plain Rust, µs | ratio |");
-    println!("|---|---|---|---|---|---|");
-    for (size, steps) in [(8, 500), (128, 20)] {
-        for (moving, water) in [(false, "still"), (true, "moving")] {
-            let site = pond(size, moving);
-            bench_step(&site, water);
-            bench_run(&site, water, steps);
+    println!("| work | site | water | ours, µs | plain Rust, µs | ratio | plain Rust that skips, µs | ratio |");
+    println!("|---|---|---|---|---|---|---|---|");
+    for (size, steps) in [(8, 500), (16, 200), (128, 20)] {
+        for water in Water::ALL {
+            let site = site(size, water);
+            bench_step(&site, water.name());
+            bench_run(&site, water.name(), steps);
         }
     }
+    println!();
+    println!("| work | site | water | ours, µs | plain Rust, µs | ratio |");
+    println!("|---|---|---|---|---|---|");
     for size in [8, 128] {
-        let site = pond(size, true);
+        let site = site(size, Water::Moving);
         bench_search(&site, "moving");
         bench_sheet(&site, "moving");
     }

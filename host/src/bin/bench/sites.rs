@@ -8,24 +8,69 @@ pub struct Measured {
     pub state: Vec<i32>,
 }
 
-/// A square site of `size` columns: a level pond over an uneven ground, still, or with waves on it that move both ways.
-pub fn pond(size: u32, moving: bool) -> Measured {
+/// What there is on a site.
+#[derive(Clone, Copy)]
+pub enum Water {
+    /// No water at all, on uneven ground.
+    Dry,
+    /// A level lake over uneven ground, at rest.
+    Lake,
+    /// Dry level ground, and in its middle a puddle that moves, an eighth of the site's side long and wide: 16×16 cells on 128×128.
+    Puddle,
+    /// Waves that move both ways, all over uneven ground.
+    Moving,
+}
+
+impl Water {
+    pub const ALL: [Water; 4] = [Water::Dry, Water::Lake, Water::Puddle, Water::Moving];
+
+    pub fn name(self) -> &'static str {
+        match self {
+            Water::Dry => "dry",
+            Water::Lake => "lake at rest",
+            Water::Puddle => "puddle",
+            Water::Moving => "moving",
+        }
+    }
+
+    fn wet(self, size: usize, column: usize, row: usize) -> bool {
+        let (first, wide) = ((size - size / 8) / 2, size / 8);
+        let middle = |place: usize| (first..first + wide).contains(&place);
+        match self {
+            Water::Dry => false,
+            Water::Lake | Water::Moving => true,
+            Water::Puddle => middle(column) && middle(row),
+        }
+    }
+}
+
+/// A square site of `size` columns.
+pub fn site(size: u32, water: Water) -> Measured {
     let card = Card { columns: size, rows: size, dx: 1_000_000, dy: 1_000_000, dt: 20, steps: 0 };
     let (cells, side) = (card.cells(), size as usize);
-    let ground: Vec<i32> = (0..cells).map(|k| ((k * 7_919) % 400_000) as i32 - 200_000).collect();
+    let (level, moving) = match water {
+        Water::Dry => (0, false),
+        Water::Lake => (2_000_000, false),
+        Water::Puddle => (300_000, true),
+        Water::Moving => (2_000_000, true),
+    };
+    let uneven = |k: usize| ((k * 7_919) % 400_000) as i32 - 200_000;
+    let ground: Vec<i32> = (0..cells).map(|k| if matches!(water, Water::Puddle) { 0 } else { uneven(k) }).collect();
     let mut state = vec![0; card.state_length()];
-    for k in 0..cells {
+    for k in (0..cells).filter(|k| water.wet(side, k % side, k / side)) {
         let wave = if moving { ((k % side) * 5_003 + (k / side) * 3_001) % 100_000 } else { 0 };
-        state[k] = 2_000_000 - ground[k] + wave as i32;
+        state[k] = level - ground[k] + wave as i32;
     }
     if moving {
         let (east, north) = state[cells..].split_at_mut(card.eastward_faces());
         for (k, velocity) in east.iter_mut().enumerate() {
-            let column = k % (side + 1);
-            *velocity = if column == 0 || column == side { 0 } else { (k * 104_729 % 600_001) as i32 - 300_000 };
+            let (column, row) = (k % (side + 1), k / (side + 1));
+            let inner = column > 0 && column < side && water.wet(side, column - 1, row) && water.wet(side, column, row);
+            *velocity = if inner { (k * 104_729 % 600_001) as i32 - 300_000 } else { 0 };
         }
         for (k, velocity) in north[side..side * side].iter_mut().enumerate() {
-            *velocity = (k * 15_485_863 % 600_001) as i32 - 300_000;
+            let inner = water.wet(side, k % side, k / side) && water.wet(side, k % side, k / side + 1);
+            *velocity = if inner { (k * 15_485_863 % 600_001) as i32 - 300_000 } else { 0 };
         }
     }
     Measured { card, ground, state }

@@ -1,10 +1,11 @@
-//! The step and the run. `tide` holds the new heights and what crosses each face, in the state's own layout.
+//! The step and the run. `tide` holds the new heights and what crosses each face, in the state's own layout. One flag says whether a
+//! division is left out where what it would divide is 0; without it each inner face with water divides three times.
 
 use super::site::{check, speed_fits};
 use water::raw::{Card, Tally};
 
 /// The buffers of a step, made once.
-pub struct Plain {
+pub struct Plain<const SKIPS: bool> {
     tide: Vec<i32>,
     draft: Vec<i32>,
 }
@@ -23,8 +24,8 @@ fn parts<'a>(card: &Card, list: &'a [i32]) -> Parts<'a> {
     Parts { heights, east, north }
 }
 
-impl Plain {
-    pub fn new() -> Plain {
+impl<const SKIPS: bool> Plain<SKIPS> {
+    pub fn new() -> Plain<SKIPS> {
         Plain { tide: vec![0; 49_408], draft: vec![0; 49_408] }
     }
 
@@ -32,7 +33,7 @@ impl Plain {
         let mut number = check(&card, ground, state, next.len() == state.len());
         if number == 0 {
             let draft = &mut self.draft[..state.len()];
-            number = advance(&card, ground, state, &mut self.tide[..state.len()], draft);
+            number = advance::<SKIPS>(&card, ground, state, &mut self.tide[..state.len()], draft);
             if number == 0 {
                 next.copy_from_slice(draft);
             }
@@ -52,7 +53,7 @@ impl Plain {
         // the two lists change places with every step
         let (mut now, mut then) = (state, scratch);
         while tally.steps < card.steps {
-            tally.reason = advance(&card, ground, now, tide, then);
+            tally.reason = advance::<SKIPS>(&card, ground, now, tide, then);
             if tally.reason != 0 {
                 break;
             }
@@ -84,12 +85,22 @@ fn limit_kept(card: &Card, state: &Parts) -> bool {
     })
 }
 
-fn transfer(height_k: i32, height_l: i32, u: i32, dt: i64, d: i64) -> i32 {
+fn quotient<const SKIPS: bool>(a: i64, b: i64) -> i64 {
+    if SKIPS && a == 0 {
+        return 0;
+    }
+    a / b
+}
+
+fn transfer<const SKIPS: bool>(height_k: i32, height_l: i32, u: i32, dt: i64, d: i64) -> i32 {
     let height = if u > 0 { height_k } else { height_l };
+    if SKIPS && (height == 0 || u == 0) {
+        return 0;
+    }
     (i64::from(height) * i64::from(u) * dt / (1_000 * d)) as i32
 }
 
-fn transfers(card: &Card, state: &Parts, east: &mut [i32], north: &mut [i32]) {
+fn transfers<const SKIPS: bool>(card: &Card, state: &Parts, east: &mut [i32], north: &mut [i32]) {
     let (columns, rows) = (card.columns as usize, card.rows as usize);
     let (dx, dy, dt) = (i64::from(card.dx), i64::from(card.dy), i64::from(card.dt));
     for j in 0..rows {
@@ -99,7 +110,7 @@ fn transfers(card: &Card, state: &Parts, east: &mut [i32], north: &mut [i32]) {
         row[0] = 0;
         row[columns] = 0;
         for i in 1..columns {
-            row[i] = transfer(heights[i - 1], heights[i], velocities[i], dt, dx);
+            row[i] = transfer::<SKIPS>(heights[i - 1], heights[i], velocities[i], dt, dx);
         }
     }
     north[..columns].fill(0);
@@ -110,7 +121,7 @@ fn transfers(card: &Card, state: &Parts, east: &mut [i32], north: &mut [i32]) {
         let velocities = &state.north[j * columns..][..columns];
         let row = &mut north[j * columns..][..columns];
         for i in 0..columns {
-            row[i] = transfer(south_heights[i], heights[i], velocities[i], dt, dy);
+            row[i] = transfer::<SKIPS>(south_heights[i], heights[i], velocities[i], dt, dy);
         }
     }
 }
@@ -146,7 +157,7 @@ impl Face {
         self.old_sum - self.flows.iter().map(|&flow| flow.max(0)).sum::<i64>()
     }
 
-    fn new_velocity(&self, own_share: i64, force: i64, side: i64) -> i64 {
+    fn new_velocity<const SKIPS: bool>(&self, own_share: i64, force: i64, side: i64) -> i64 {
         if self.new_sum == 0 {
             return 0;
         }
@@ -154,7 +165,7 @@ impl Face {
         for (&flow, &velocity) in self.flows.iter().zip(&self.beyond) {
             carried += (-flow).max(0) * i64::from(velocity);
         }
-        carried / self.new_sum - force * self.rise / side
+        quotient::<SKIPS>(carried, self.new_sum) - quotient::<SKIPS>(force * self.rise, side)
     }
 }
 
@@ -171,16 +182,16 @@ struct Wrong {
 
 impl Wrong {
     /// The new velocity of a face, noted where it or the face's own share is out of range.
-    fn velocity(&mut self, face: Face, force: i64, side: i64) -> i32 {
+    fn velocity<const SKIPS: bool>(&mut self, face: Face, force: i64, side: i64) -> i32 {
         let own_share = face.own_share();
         self.six |= own_share < 0;
-        let velocity = face.new_velocity(own_share, force, side);
+        let velocity = face.new_velocity::<SKIPS>(own_share, force, side);
         self.seven |= i32::try_from(velocity).map_or(true, |velocity| !speed_fits(velocity));
         velocity as i32
     }
 }
 
-fn eastward(card: &Card, ground: &[i32], state: &Parts, tide: &Parts, next: &mut [i32], wrong: &mut Wrong) {
+fn eastward<const SKIPS: bool>(card: &Card, ground: &[i32], state: &Parts, tide: &Parts, next: &mut [i32], wrong: &mut Wrong) {
     let (columns, rows) = (card.columns as usize, card.rows as usize);
     let (force, side) = (9_806_650 * i64::from(card.dt), 1_000 * i64::from(card.dx));
     for j in 0..rows {
@@ -211,12 +222,12 @@ fn eastward(card: &Card, ground: &[i32], state: &Parts, tide: &Parts, next: &mut
                 ],
                 beyond: [u[i + 1], u[i - 1], u_north[i], u_south[i]],
             };
-            row[i] = wrong.velocity(face, force, side);
+            row[i] = wrong.velocity::<SKIPS>(face, force, side);
         }
     }
 }
 
-fn northward(card: &Card, ground: &[i32], state: &Parts, tide: &Parts, next: &mut [i32], wrong: &mut Wrong) {
+fn northward<const SKIPS: bool>(card: &Card, ground: &[i32], state: &Parts, tide: &Parts, next: &mut [i32], wrong: &mut Wrong) {
     let (columns, rows) = (card.columns as usize, card.rows as usize);
     let (force, side) = (9_806_650 * i64::from(card.dt), 1_000 * i64::from(card.dy));
     next[..columns].fill(0);
@@ -245,13 +256,13 @@ fn northward(card: &Card, ground: &[i32], state: &Parts, tide: &Parts, next: &mu
                 ],
                 beyond: [u_ahead[i], u_behind[i], u[(i + 1).min(columns - 1)], u[i.saturating_sub(1)]],
             };
-            row[i] = wrong.velocity(face, force, side);
+            row[i] = wrong.velocity::<SKIPS>(face, force, side);
         }
     }
 }
 
 /// One step of a site that passed the first three checks: 0 and the next state, or 4 to 7 and anything in `next`.
-fn advance(card: &Card, ground: &[i32], state: &[i32], tide: &mut [i32], next: &mut [i32]) -> u32 {
+fn advance<const SKIPS: bool>(card: &Card, ground: &[i32], state: &[i32], tide: &mut [i32], next: &mut [i32]) -> u32 {
     let (columns, rows) = (card.columns as usize, card.rows as usize);
     let old = parts(card, state);
     if !limit_kept(card, &old) {
@@ -259,7 +270,7 @@ fn advance(card: &Card, ground: &[i32], state: &[i32], tide: &mut [i32], next: &
     }
     let (heights, crossed) = tide.split_at_mut(columns * rows);
     let (east, north) = crossed.split_at_mut((columns + 1) * rows);
-    transfers(card, &old, east, north);
+    transfers::<SKIPS>(card, &old, east, north);
     if !new_heights(card, old.heights, east, north, heights) {
         return 5;
     }
@@ -268,8 +279,8 @@ fn advance(card: &Card, ground: &[i32], state: &[i32], tide: &mut [i32], next: &
     let (heights, velocities) = next.split_at_mut(columns * rows);
     let (east, north) = velocities.split_at_mut((columns + 1) * rows);
     heights.copy_from_slice(tide.heights);
-    eastward(card, ground, &old, &tide, east, &mut wrong);
-    northward(card, ground, &old, &tide, north, &mut wrong);
+    eastward::<SKIPS>(card, ground, &old, &tide, east, &mut wrong);
+    northward::<SKIPS>(card, ground, &old, &tide, north, &mut wrong);
     match wrong {
         Wrong { six: true, .. } => 6,
         Wrong { seven: true, .. } => 7,
