@@ -4,6 +4,7 @@ use mathlib.Core.Bool.{Bool, true, false, not}
 use mathlib.Core.List.{List}
 use Prim.Native.Nat.{_*_}
 use native.Mathlib.Nat.{suc-ne-zero}
+use native.Mathlib.Omega.{arith}
 use borrow.Author.Tests.{not-true, not-false}
 use lib.IntN.{ℤ}
 use lib.ListN.{length, drop}
@@ -15,30 +16,41 @@ use Rattle.laws.specs.Tested.{Filled}
 use Rattle.laws.specs.Facts.{Sound}
 use Rattle.transfers.specs.Tide.{tide, crossings, tideFits}
 use Rattle.transfers.specs.Known.{SoundState, Limited, TideRoom}
-use Rattle.heights.specs.Known.{Crossed}
+use Rattle.transfers.proofs.Sites.{facts}
+use Rattle.heights.specs.Known.{MarkedState, Crossed}
 use Rattle.heights.proofs.Tides.{tide-heights}
+use Rattle.rest.specs.Marks.{Marked, MarksRoom}
 use Rattle.around.specs.Faces.{Flowing}
-use Rattle.advance.specs.Advance.{StepRoom, NextRoom, Advanced}
+use Rattle.advance.specs.Advance.{StepRoom, MarkedRoom, NextRoom, Advanced}
 
 module _ {c : Card} {g s t n : List ℤ} (room : StepRoom c g s t n) where
   pub sound : SoundState c s
   sound = record { ground = g; site = room .sound }
 
+  -- room for the marks, and what they are good for
+  pub marks-room : {marks : List Bool} → length marks ≡ 128 → MarksRoom c s marks
+  marks-room {marks} e =
+      let f = facts sound in
+      record { card = f .card; long = f .lengths .state; room = omega (arith, e, f .card .rows-high) }
+
+pub marked-state : {c : Card} {g s t n : List ℤ} {marks : List Bool} → MarkedRoom c g s marks t n → MarkedState c s marks
+marked-state m = record { sound = sound (m .room); marked = m .marked }
+
 -- the look at the step limit
-module _ {c : Card} {g s t n : List ℤ} (room : StepRoom c g s t n) {kept : Bool} (looked : kept ≡ limitKept c (readState c s)) where
+module _ {c : Card} {g s t n : List ℤ} {marks : List Bool} (marked : MarkedRoom c g s marks t n) {kept : Bool} (looked : kept ≡ limitKept c (readState c s)) where
   -- 4
   pub limit-broken : {m : List ℤ} → not kept ≡ true → Advanced c g s 4 m
   unfolding stepNumber stepNumberBy number answer
   limit-broken b = let l : limitKept c (readState c s) ≡ false = sym looked ∙ not-true kept b in record { number = rw l; state = λ e. absurd (suc-ne-zero 3 e) }
 
   pub limited : not kept ≡ false → Limited c s
-  limited b = record { sound = sound room; limit = sym looked ∙ not-false kept b }
+  limited b = record { sound = sound (marked .room); limit = sym looked ∙ not-false kept b }
 
-  pub tide-room : not kept ≡ false → TideRoom c s t
-  tide-room b = record { limited = limited b; long = room .tide }
+  pub tide-room : not kept ≡ false → TideRoom c s marks t
+  tide-room b = record { limited = limited b; marked = marked .marked; long = marked .room .tide }
 
   pub crossed : not kept ≡ false → {t′ : List ℤ} → length t′ ≡ length t → drop (c .rows * c .columns) t′ ≡ crossings c (readState c s) → Crossed c s t′
-  crossed b long is = record { limited = limited b; long = long ∙ room .tide; crossed = is }
+  crossed b long is = record { limited = limited b; long = long ∙ marked .room .tide; crossed = is }
 
 -- the new heights, in a tide
 module _ {c : Card} {s t : List ℤ} (limited : Limited c s) (holds : Holds c (tide c (readState c s)) t) {fit : Bool} (looked : fit ≡ tideFits c t) where
@@ -52,8 +64,8 @@ module _ {c : Card} {s t : List ℤ} (limited : Limited c s) (holds : Holds c (t
       let h : newHeightsFit c (readState c s) ≡ false = sym fit-is ∙ not-true fit b in
       record { number = rw (limited .limit, h); state = λ e. absurd (suc-ne-zero 4 e) }
 
-  pub next-room : not fit ≡ false → {g : List ℤ} → Sound c g s → {n : List ℤ} → length n ≡ stateLength c → NextRoom c g s t n
-  next-room b sound long = record { flowing = record { sound = sound; limit = limited .limit; heights = sym fit-is ∙ not-false fit b; tide = holds }; long = long }
+  pub next-room : {marks : List Bool} → Marked c s marks → not fit ≡ false → {g : List ℤ} → Sound c g s → {n : List ℤ} → length n ≡ stateLength c → NextRoom c g s t marks n
+  next-room m b sound long = record { marked = m; flowing = record { sound = sound; limit = limited .limit; heights = sym fit-is ∙ not-false fit b; tide = holds }; long = long }
 
 -- own shares and new velocities
 module _ {c : Card} {g s t : List ℤ} (flowing : Flowing c g s t) {shared : Bool} (looked : shared ≡ sharesFit c (readGround c g) (readState c s)) where

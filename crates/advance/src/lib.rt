@@ -1,34 +1,71 @@
-// One step of a sound site, with a tide to work in.
+// One step of a sound site, with a tide to work in. The rows at rest are marked first, and passed over by all that follows.
 ghost use Rattle.rules.specs.Site.{readGround, readState};
 ghost use Rattle.rules.specs.Step.{newVelocity, newVelocitiesFit, nextState};
 ghost use Rattle.laws.specs.Tested.{Filled};
-ghost use Rattle.advance.specs.Advance.{StepRoom, NextRoom, Advanced};
+ghost use Rattle.advance.specs.Advance.{StepRoom, MarkedRoom, NextRoom, Advanced};
 use rules::Card;
 
 // Fills the next state: its heights from the tide, and the velocities behind them. Where a velocity does not fit, nothing is promised of its words.
-fn fill_next(card: Card, ground: &[i32], state: &[i32], tide: &[i32], next: &mut [i32]) -> bool
-    requires { ⌜ NextRoom card (now ground) (now state) (now tide) (now next) ⌝ }
+fn fill_next(
+    card: Card,
+    ground: &[i32],
+    state: &[i32],
+    tide: &[i32],
+    marks: &[bool],
+    next: &mut [i32],
+) -> bool
+    requires { ⌜ NextRoom card (now ground) (now state) (now tide) (now marks) (now next) ⌝ }
     ensures { λ r. ⌜ Filled (newVelocitiesFit newVelocity card (readGround card (now (ground .entry))) (readState card (now (state .entry)))) (nextState card (now (ground .entry)) (now (state .entry))) r (now (next .exit)) ⌝ }
 {
     let columns = card.columns as usize;
     let rows = card.rows as usize;
     let cells = rows * columns;
     lists::copy(&mut next[..cells], &tide[..cells]);
-    velocities::passes::velocities(card, ground, state, tide, &mut next[cells..])
+    velocities::passes::velocities(card, ground, state, tide, marks, &mut next[cells..])
 }
 
 // The second half of a step, once the tide is at hand: 6 or 7, or 0 and the next state.
-fn move_on(card: Card, ground: &[i32], state: &[i32], tide: &[i32], next: &mut [i32]) -> u32
-    requires { ⌜ NextRoom card (now ground) (now state) (now tide) (now next) ⌝ }
+fn move_on(
+    card: Card,
+    ground: &[i32],
+    state: &[i32],
+    tide: &[i32],
+    marks: &[bool],
+    next: &mut [i32],
+) -> u32
+    requires { ⌜ NextRoom card (now ground) (now state) (now tide) (now marks) (now next) ⌝ }
     ensures { λ r. ⌜ Advanced card (now (ground .entry)) (now (state .entry)) r (now (next .exit)) ⌝ }
 {
-    if !velocities::shares::shares_fit(card, ground, state, tide) {
+    if !velocities::shares::shares_fit(card, ground, state, tide, marks) {
         return 6;
     }
-    if !fill_next(card, ground, state, tide, next) {
+    if !fill_next(card, ground, state, tide, marks, next) {
         return 7;
     }
     0
+}
+
+// The whole step, once the rows at rest are marked.
+fn advance_marked(
+    card: Card,
+    ground: &[i32],
+    state: &[i32],
+    marks: &[bool],
+    tide: &mut [i32],
+    next: &mut [i32],
+) -> u32
+    requires { ⌜ MarkedRoom card (now ground) (now state) (now marks) (now tide) (now next) ⌝ }
+    ensures { λ r. ⌜ Advanced card (now (ground .entry)) (now (state .entry)) r (now (next .exit)) ⌝ }
+{
+    if !heights::look::limit_kept(card, state, marks) {
+        return 4;
+    }
+    transfers::transfers(card, state, marks, tide);
+    heights::tide::heights(card, state, tide);
+    if !heights::tide::heights_fit(card, tide) {
+        return 5;
+    }
+    move_on(card, ground, state, tide, marks, next)
 }
 
 // The step's number. Where it is 0, `next` is the next state; otherwise nothing is promised of its words.
@@ -36,13 +73,7 @@ pub fn advance(card: Card, ground: &[i32], state: &[i32], tide: &mut [i32], next
     requires { ⌜ StepRoom card (now ground) (now state) (now tide) (now next) ⌝ }
     ensures { λ r. ⌜ Advanced card (now (ground .entry)) (now (state .entry)) r (now (next .exit)) ⌝ }
 {
-    if !heights::look::limit_kept(card, state) {
-        return 4;
-    }
-    transfers::transfers(card, state, tide);
-    heights::tide::heights(card, state, tide);
-    if !heights::tide::heights_fit(card, tide) {
-        return 5;
-    }
-    move_on(card, ground, state, tide, next)
+    let mut marks = rest::no_marks();
+    rest::mark(card, state, &mut marks);
+    advance_marked(card, ground, state, &marks, tide, next)
 }

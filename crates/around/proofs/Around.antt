@@ -45,12 +45,19 @@ module _ {c : Card} {i j : ℕ} where
 
 -- ---- The cells of an inner face
 
+module _ {c : Card} (east : Bool) (i j : ℕ) (column : forth east i < c .columns) (row : forth (not east) j < c .rows) where
+  pub behind : Cell c i j
+  behind = record { column = omega (arith, forth-more east i); row = omega (arith, forth-more (not east) j) }
+
+  pub beyond : {iL jL : ℕ} → iL ≡ forth east i → jL ≡ forth (not east) j → Cell c iL jL
+  beyond d e = record { column = rw d column; row = rw e row }
+
 module _ {c : Card} {g s t : List ℤ} {east : Bool} {i j : ℕ} (a : AtFace c g s t east i j) where
   pub cell-k : Cell c i j
-  cell-k = record { column = omega (arith, forth-more east i, a .column); row = omega (arith, forth-more (not east) j, a .row) }
+  cell-k = behind east i j (a .column) (a .row)
 
   pub cell-l : {iL jL : ℕ} → iL ≡ forth east i → jL ≡ forth (not east) j → Cell c iL jL
-  cell-l d e = record { column = rw d (a .column); row = rw e (a .row) }
+  cell-l = beyond east i j (a .column) (a .row)
 
 -- a face that is no wall has a cell behind it
 pub inner-at : {c : Card} {g s t : List ℤ} {i j : ℕ} → Flowing c g s t → (east : Bool) → FaceIn c east i j → isWall c east i j ≡ false → AtFace c g s t east (back east i) (back (not east) j)

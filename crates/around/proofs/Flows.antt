@@ -1,6 +1,6 @@
 -- What stands in the lists of a site with its tide: each cell and each face has its place in them, and the tide has what crossed the faces and the new heights.
 use Prim.Native.Nat.{ℕ, _+_, _*_, _≤_, _<_}
-use mathlib.Core.Path.{_≡_, refl}
+use mathlib.Core.Path.{_≡_, _∙_, refl, sym}
 use mathlib.Core.Bool.{Bool, true, false}
 use mathlib.Core.List.{List}
 use native.Mathlib.Nat.{zero-add}
@@ -11,7 +11,7 @@ use lib.ListN.{length, getD}
 use Rattle.rules.specs.declared.Card.{Card}
 use Rattle.rules.specs.Site.{readGround, readState}
 use Rattle.rules.specs.Step.{newHeight}
-use Rattle.laws.specs.Places.{height-in}
+use Rattle.laws.specs.Places.{height-in, height-read as Places·height-read}
 use Rattle.laws.specs.Reading.{long-of, height-read, east-read, north-read}
 use Rattle.transfers.proofs.Sites.{facts}
 use Rattle.transfers.specs.Known.{SoundState}
@@ -20,6 +20,10 @@ use Rattle.layout.specs.Ways.{wide, high, speeds, transfers}
 use Rattle.layout.specs.Places.{FaceIn, FacePlace}
 use Rattle.around.specs.Faces.{Flowing}
 use Rattle.around.proofs.Around.{Cell}
+
+pub ground-read : (c : Card) (g : List ℤ) (i j : ℕ) → getD g (0 + (j * c .columns + i)) (pos 0) ≡ readGround c g i j
+unfolding readGround
+ground-read c g i j = rw zero-add
 
 module _ {c : Card} {g s t : List ℤ} (f : Flowing c g s t) where
   abbrev pub sound-of : SoundState c s
@@ -37,12 +41,14 @@ module _ {c : Card} {g s t : List ℤ} (f : Flowing c g s t) where
     tide-in = height-in c (long-of (f .tide)) (k .column) (k .row)
 
     pub ground-is : getD g (0 + (j * c .columns + i)) (pos 0) ≡ readGround c g i j
-    unfolding readGround
-    ground-is = rw zero-add
+    ground-is = ground-read c g i j
 
     pub new-is : getD t (0 + (j * c .columns + i)) (pos 0) ≡ newHeight c (readState c s) i j
     unfolding tide
     new-is = height-read (f .tide) i j (k .column) (k .row) (zero-add _)
+
+    pub tide-height : readState c t .height i j ≡ newHeight c (readState c s) i j
+    tide-height = sym (Places·height-read c t i j) ∙ new-is
 
   -- at a face: what crossed it
   module _ {i j : ℕ} where

@@ -1,6 +1,6 @@
 -- The numbers around an inner face are in their ranges: what the arithmetic of a face requires.
 use Prim.Native.Nat.{ℕ, zero, suc, zero-le}
-use mathlib.Core.Path.{refl}
+use mathlib.Core.Path.{refl, sym, subst}
 use mathlib.Core.Bool.{Bool, not}
 use mathlib.Core.List.{List}
 use native.Mathlib.Omega.{arith}
@@ -14,6 +14,7 @@ use Rattle.laws.specs.Grids.{allAt-at}
 use Rattle.laws.specs.Sizes.{Within}
 use Rattle.laws.specs.Walls.{behind-has}
 use Rattle.laws.specs.Bounded.{new-low}
+use Rattle.laws.specs.Reading.{long-of}
 use Rattle.face.specs.Ranges.{Height, Speed, Transfer}
 use Rattle.momentum.specs.Fits.{Ground, FaceFits}
 use Rattle.layout.specs.Ways.{speeds, transfers}
@@ -21,8 +22,9 @@ use Rattle.transfers.proofs.Sites.{facts, depths, height-fits, speed-fits, cros
 use Rattle.layout.specs.Places.{FaceIn}
 use Rattle.around.specs.Around.{speedAbove, speedBelow, gatheredFace}
 use Rattle.around.specs.Faces.{Flowing, AtFace, innerFace}
+use Rattle.around.specs.Still.{stillFace, StillPlace}
 use Rattle.around.proofs.Around.{Cell, near-in, far-in, cell-k, cell-l, gathered-is}
-use Rattle.around.proofs.Flows.{sound-of}
+use Rattle.around.proofs.Flows.{sound-of, tide-height}
 
 -- beside a face stands another one, or a wall
 module _ {N : ℕ} (f : ℕ → ℤ) (h : (k : ℕ) → Within N (f k)) where
@@ -80,6 +82,41 @@ module _ {c : Card} {g s t : List ℤ} (f : Flowing c g s t) where
           uAbove = after-within _ (λ n. speed _ _) _ _;
           uBelow = before-within _ (λ n. speed _ _) _;
         }
+
+-- those of a face at rest, and the places of its cells
+module _ {c : Card} {g s t : List ℤ} {east : Bool} {i j : ℕ} (a : AtFace c g s t east i j) where
+  pub still-place : StillPlace c g t east i j
+  still-place =
+      let f = facts (sound-of (a .flowing)) in
+      record { card = f .card; ground = f .lengths .ground; tide = long-of (a .flowing .tide); column = a .column; row = a .row }
+
+  pub still-fits : FaceFits (stillFace (readGround c g) (readState c t .height) east i j)
+  unfolding stillFace
+  still-fits =
+      let f = a .flowing in
+      let none : Height (pos 0) = record { low = tt; high = tt } in
+      let nothing : Transfer (pos 0) = record { size = zero-le } in
+      let calm : Speed (pos 0) = record { size = zero-le } in
+      record {
+        oldK = none;
+        oldL = none;
+        newK = subst Height (sym (tide-height f (cell-k a))) (new-fits f (cell-k a));
+        newL = subst Height (sym (tide-height f (cell-l a refl refl))) (new-fits f (cell-l a refl refl));
+        groundK = ground-fits f _ _;
+        groundL = ground-fits f _ _;
+        own = nothing;
+        ahead = nothing;
+        behind = nothing;
+        aboveK = nothing;
+        aboveL = nothing;
+        belowK = nothing;
+        belowL = nothing;
+        u = calm;
+        uAhead = calm;
+        uBehind = calm;
+        uAbove = calm;
+        uBelow = calm;
+      }
 
 pub face-fits : {c : Card} {g s t : List ℤ} {east : Bool} {i j : ℕ} → AtFace c g s t east i j → FaceFits (innerFace c (readGround c g) (readState c s) east i j)
 face-fits {c} {g} {s} {t} {east} {i} {j} a = rw (← gathered-is c (readGround c g) (readState c s) east i j) (gathered-fits (a .flowing) east (cell-k a) (cell-l a refl refl))

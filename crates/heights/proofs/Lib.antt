@@ -1,1 +1,2 @@
 pub mod Tides
+pub mod Still

@@ -1,9 +1,8 @@
-// The look at the step limit: every cell, dry ones too, left at the first that breaks it.
+// The look at the step limit: every cell, dry ones too, left at the first that breaks it. Cells at rest keep it, and are passed over row by row.
 ghost use mathlib.Core.Path.{_≡_};
 ghost use Rattle.rules.specs.Site.{readState};
 ghost use Rattle.rules.specs.Step.{withinLimit, limitKept};
-ghost use Rattle.transfers.specs.Known.{SoundState};
-ghost use Rattle.heights.specs.Known.{SoundCell};
+ghost use Rattle.heights.specs.Known.{SoundCell, MarkedState};
 use layout::cells;
 use rules::Card;
 
@@ -25,14 +24,17 @@ fn keeps_limit(card: Card, state: &[i32], i: usize, j: usize) -> bool
 }
 
 // Whether every cell does.
-pub fn limit_kept(card: Card, state: &[i32]) -> bool
-    requires { ⌜ SoundState card (now state) ⌝ }
+pub fn limit_kept(card: Card, state: &[i32], marks: &[bool]) -> bool
+    requires { ⌜ MarkedState card (now state) (now marks) ⌝ }
     ensures { λ r. ⌜ r ≡ limitKept card (readState card (now (state .entry))) ⌝ }
 {
     let columns = card.columns as usize;
     let rows = card.rows as usize;
     let mut kept = true;
     'look: for j in 0..rows {
+        if marks[j] {
+            continue 'look;
+        }
         for i in 0..columns {
             if !keeps_limit(card, state, i, j) {
                 kept = false;

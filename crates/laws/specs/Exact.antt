@@ -126,7 +126,7 @@ zero-bits w = toZ-ofZ {w = w} (record { sfits = pow-pos (hbits w) })
 pub is-zero : {w : Width} (t : Node w) → ofZ w (t .raw) ≡ 0 → t .z ≡ pos 0
 is-zero {w} t e = sym (value t) ∙ ap (toZ w) e ∙ zero-bits w
 
-no-size : (z : ℤ) → natAbs z ≡ 0 → z ≡ pos 0
+pub no-size : (z : ℤ) → natAbs z ≡ 0 → z ≡ pos 0
 no-size (pos n) e = ap pos e
 no-size (negsuc n) e = absurd (suc-ne-zero n e)
 

@@ -109,6 +109,9 @@ pub allAt-more : (m n : ℕ) (p : ℕ → ℕ → Bool) → T (allAt m n p) → 
 unfolding allAt
 allAt-more m n p t u = all-more n (λ j. all m (λ i. p i j)) t u
 
+pub all-broken : (n : ℕ) (p : ℕ → Bool) (i : ℕ) → i < n → T (not (p i)) → all n p ≡ false
+all-broken n p i h u = false-of (all n p) (not-T (all n p) (λ t. T-not (p i) u (all-at n p t i h)))
+
 pub allAt-broken : (m n : ℕ) (p : ℕ → ℕ → Bool) (i j : ℕ) → i < m → j < n → T (not (p i j)) → allAt m n p ≡ false
 allAt-broken m n p i j hi hj u = false-of (allAt m n p) (not-T (allAt m n p) (λ t. T-not (p i j) u (allAt-at m n p t i j hi hj)))
 

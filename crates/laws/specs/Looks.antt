@@ -6,7 +6,7 @@ use native.Mathlib.Omega.{arith}
 use lib.Dec.{T}
 use Rattle.rules.specs.Grid.{all, allAt}
 use Rattle.laws.specs.Tests.{true-of, to-T}
-use Rattle.laws.specs.Grids.{all-more, all-end, all-none, allAt-more, allAt-end, allAt-none, allAt-broken}
+use Rattle.laws.specs.Grids.{all-intro, all-more, all-end, all-none, allAt-more, allAt-end, allAt-none, allAt-broken}
 
 -- the outer loop: every place of the rows below j passed
 pub record RowsPass (columns rows : ℕ) (p : ℕ → ℕ → Bool) (good : Bool) (j : ℕ) : Type 0 where
@@ -38,6 +38,15 @@ module _ {columns rows : ℕ} {p : ℕ → ℕ → Bool} where
         most = omega arith;
         so-far = h .so-far;
         is = allAt-more columns j p (h .below) (all-end columns i (λ k. p k j) (h .most) hi (h .is));
+      }
+
+  -- a row that is passed over, since every place of it is known to pass
+  pub whole-row : {good : Bool} {j : ℕ} → RowsPass columns rows p good j → j < rows → ((i : ℕ) → i < columns → p i j ≡ true) → RowsPass columns rows p good (j + 1)
+  whole-row {good} {j} h hj f =
+      record {
+        most = omega arith;
+        so-far = h .so-far;
+        is = allAt-more columns j p (h .is) (all-intro columns (λ k. p k j) (λ i hi. to-T (f i hi)));
       }
 
   pub done : {good : Bool} {j : ℕ} → RowsPass columns rows p good j → rows ≤ j → good ≡ allAt columns rows p

@@ -13,6 +13,7 @@ use Rattle.laws.specs.Facts.{Sound}
 use Rattle.face.specs.Ranges.{InTransfer}
 use Rattle.layout.specs.Places.{FaceIn}
 use Rattle.layout.specs.Ways.{wide, high}
+use Rattle.rest.specs.Marks.{Marked}
 
 -- the state of a sound site, over some ground
 pub record SoundState (c : Card) (s : List ℤ) : Type 0 where
@@ -35,15 +36,18 @@ pub record InCrossing (hK hL u : ℤ) (dt d : ℕ) : Type 0 where
   pub size : Within 50000000 (transfer dt d hK hL u)
 
 -- room for what crosses the faces of one way, and for both
-pub record FacesRoom (c : Card) (s : List ℤ) (east : Bool) (part : List ℤ) : Type 0 where
+pub record FacesRoom (c : Card) (s : List ℤ) (marks : List Bool) (east : Bool) (part : List ℤ) : Type 0 where
   pub limited : Limited c s
+  pub marked : Marked c s marks
   pub long : length part ≡ high c east * wide c east
 
-pub record CrossingsRoom (c : Card) (s part : List ℤ) : Type 0 where
+pub record CrossingsRoom (c : Card) (s : List ℤ) (marks : List Bool) (part : List ℤ) : Type 0 where
   pub limited : Limited c s
+  pub marked : Marked c s marks
   pub long : length part ≡ c .rows * suc (c .columns) + suc (c .rows) * c .columns
 
 -- a list in the state's layout
-pub record TideRoom (c : Card) (s t : List ℤ) : Type 0 where
+pub record TideRoom (c : Card) (s : List ℤ) (marks : List Bool) (t : List ℤ) : Type 0 where
   pub limited : Limited c s
+  pub marked : Marked c s marks
   pub long : length t ≡ stateLength c

@@ -1,2 +1,3 @@
 pub mod Speeds
 pub mod Velocities
+pub mod Resting

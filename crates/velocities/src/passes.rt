@@ -1,6 +1,7 @@
 // The velocities of the next state, in the part of it that starts behind the heights: two passes, each left at the first velocity out of
-// range. Two divisions for each inner face; none on the walls.
+// range. At most two divisions for each inner face; none on the walls. In a row at rest four numbers are read for a face, else eighteen.
 use around::faces;
+use around::still;
 use layout::ways;
 use rules::Card;
 ghost use mathlib.Core.Path.{_≡_};
@@ -12,7 +13,7 @@ ghost use Rattle.laws.specs.Tested.{Filled};
 ghost use Rattle.layout.specs.Ways as Ways;
 ghost use Rattle.velocities.specs.Velocities.{OnFace, Room, newSpeeds, nextVelocities};
 
-// The new velocity of a face.
+// The new velocity of a face, in a row that is known to be at rest or in any other.
 fn velocity(
     card: Card,
     east: bool,
@@ -21,8 +22,9 @@ fn velocity(
     tide: &[i32],
     i: usize,
     j: usize,
+    rests: bool,
 ) -> i64
-    requires { ⌜ OnFace card (now ground) (now state) (now tide) east i j ⌝ }
+    requires { ⌜ OnFace card (now ground) (now state) (now tide) east i j rests ⌝ }
     ensures { λ r. ⌜ r ≡ newSpeeds card (now (ground .entry)) (now (state .entry)) east i j ⌝ }
 {
     if ways::is_wall(card, east, i, j) {
@@ -30,6 +32,13 @@ fn velocity(
     }
     let k = ways::back(east, i);
     let l = ways::back(!east, j);
+    if rests {
+        return velocity::new_velocity(
+            still::face(card, east, ground, tide, k, l),
+            card.dt,
+            ways::side(card, east),
+        );
+    }
     velocity::new_velocity(
         faces::face(card, east, ground, state, tide, k, l),
         card.dt,
@@ -44,16 +53,18 @@ fn pass(
     ground: &[i32],
     state: &[i32],
     tide: &[i32],
+    marks: &[bool],
     part: &mut [i32],
 ) -> bool
-    requires { ⌜ Room card (now ground) (now state) (now tide) (Ways.high card east * Ways.wide card east) (now part) ⌝ }
+    requires { ⌜ Room card (now ground) (now state) (now tide) (now marks) (Ways.high card east * Ways.wide card east) (now part) ⌝ }
     ensures { λ r. ⌜ Filled (allAt (Ways.wide card east) (Ways.high card east) (λ i j. speedFits (newSpeeds card (now (ground .entry)) (now (state .entry)) east i j))) (grid (Ways.wide card east) (Ways.high card east) (newSpeeds card (now (ground .entry)) (now (state .entry)) east)) r (now (part .exit)) ⌝ }
 {
     let wide = ways::wide(card, east);
     let high = ways::high(card, east);
     for j in 0..high {
+        let rests = rest::both_rest(card, east, marks, j);
         for i in 0..wide {
-            let u = velocity(card, east, ground, state, tide, i, j);
+            let u = velocity(card, east, ground, state, tide, i, j, rests);
             if !velocity::speed_fits(u) {
                 return false;
             }
@@ -64,15 +75,22 @@ fn pass(
 }
 
 // Both, in the part of the next state that starts behind the heights. Where one is out of range, nothing is promised of the part's words.
-pub fn velocities(card: Card, ground: &[i32], state: &[i32], tide: &[i32], part: &mut [i32]) -> bool
-    requires { ⌜ Room card (now ground) (now state) (now tide) (card .rows * suc (card .columns) + suc (card .rows) * card .columns) (now part) ⌝ }
+pub fn velocities(
+    card: Card,
+    ground: &[i32],
+    state: &[i32],
+    tide: &[i32],
+    marks: &[bool],
+    part: &mut [i32],
+) -> bool
+    requires { ⌜ Room card (now ground) (now state) (now tide) (now marks) (card .rows * suc (card .columns) + suc (card .rows) * card .columns) (now part) ⌝ }
     ensures { λ r. ⌜ Filled (newVelocitiesFit newVelocity card (readGround card (now (ground .entry))) (readState card (now (state .entry)))) (nextVelocities card (now (ground .entry)) (now (state .entry))) r (now (part .exit)) ⌝ }
 {
     let columns = card.columns as usize;
     let rows = card.rows as usize;
     let faces = rows * (columns + 1);
-    if !pass(card, true, ground, state, tide, &mut part[..faces]) {
+    if !pass(card, true, ground, state, tide, marks, &mut part[..faces]) {
         return false;
     }
-    pass(card, false, ground, state, tide, &mut part[faces..])
+    pass(card, false, ground, state, tide, marks, &mut part[faces..])
 }

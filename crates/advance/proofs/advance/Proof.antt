@@ -1,61 +1,42 @@
--- `advance`: each test that passes gives what the next part needs: the limit for the transfers, then the heights' range.
+-- `advance`: the marks have room for every row of a sound site.
 use borrow.Author.Needs.{needs}
-use Rattle.advance.proofs.Answers.{limit-broken, limited, tide-room, crossed, height-broken, next-room}
+use Rattle.advance.proofs.Answers.{marks-room}
 use Rattle.advance.proofs.advance.Statement.{statement}
 use Rattle.advance.proofs.advance.Tie as tie
 
--- where the tide has its heights, from where they were looked at
-abbrev filled : tie.After-heights-fit → tie.After-heights
-filled c = c .before .before .before
+no-marks-requires : tie.Need-no-marks-requires
+no-marks-requires c κs = search needs
 
-limit-kept-requires : tie.Need-limit-kept-requires
-limit-kept-requires c κs = search needs
+slice-aggregate-mark : tie.Need-slice-aggregate-mark
+slice-aggregate-mark c = search needs
 
-returns : tie.Need-returns
-returns c = search limit-broken
+mark-requires : tie.Need-mark-requires
+mark-requires c κs = marks-room (c .before .before .pre) (c .before .no-marks .ensures)
 
-transfers-requires : tie.Need-transfers-requires
-transfers-requires c κs = search tide-room
+slice-aggregate-advance-marked : tie.Need-slice-aggregate-advance-marked
+slice-aggregate-advance-marked c = search needs
 
-heights-requires : tie.Need-heights-requires
-heights-requires c κs = search crossed
-
-heights-fit-requires : tie.Need-heights-fit-requires
-heights-fit-requires c κs = search needs
+advance-marked-requires : tie.Need-advance-marked-requires
+advance-marked-requires c κs = search needs
 
 same-length : tie.Need-same-length
 same-length c = search needs
 
-returns-2 : tie.Need-returns-2
-returns-2 c = let d = c .before in height-broken (search limited) (filled d .heights .ensures) (d .heights-fit .ensures) (c .if2 .taken)
-
-move-on-requires : tie.Need-move-on-requires
-move-on-requires c κs =
-    let e = c .before .before in
-    let d = e .before in
-    next-room (search limited) (filled d .heights .ensures) (d .heights-fit .ensures) (e .if2 .left) (search needs) (search needs)
-
 same-length-2 : tie.Need-same-length-2
 same-length-2 c = search needs
 
-same-length-3 : tie.Need-same-length-3
-same-length-3 c = search needs
-
-returns-3 : tie.Need-returns-3
-returns-3 c = search needs
+returns : tie.Need-returns
+returns c = search needs
 
 pub advance-spec : {M : Type 1} → statement M
 advance-spec =
     tie.close
     (tie.spec
-    limit-kept-requires
-    returns
-    transfers-requires
-    heights-requires
-    heights-fit-requires
+    no-marks-requires
+    slice-aggregate-mark
+    mark-requires
+    slice-aggregate-advance-marked
+    advance-marked-requires
     same-length
-    returns-2
-    move-on-requires
     same-length-2
-    same-length-3
-    returns-3)
+    returns)

@@ -51,27 +51,27 @@ cast-rows : tie.Need-cast-rows
 cast-rows c = search needs
 
 mul-cells : tie.Need-mul-cells
-mul-cells c = omega (arith, next-room (c .before .before))
+mul-cells c = omega (arith, next-room (c .before .before .before))
 
 slice-relend-prefix-copy : tie.Need-slice-relend-prefix-copy
-slice-relend-prefix-copy c = next-room (c .before .before) .heights
+slice-relend-prefix-copy c = next-room (c .before .before .before) .heights
 
 slice-aggregate-copy : tie.Need-slice-aggregate-copy
-slice-aggregate-copy c = sym (next-front (c .before .before .before))
+slice-aggregate-copy c = sym (next-front (c .before .before .before .before))
 
 slice-aggregate-copy-2 : tie.Need-slice-aggregate-copy-2
 slice-aggregate-copy-2 c =
-    let start = c .before .before .before .before in
+    let start = c .before .before .before .before .before in
     omega (arith, tide-front start, state-front start)
 
 copy-requires : tie.Need-copy-requires
 copy-requires c κs =
-    let start = c .before .before .before .before in
+    let start = c .before .before .before .before .before in
     omega (arith, next-front start, tide-front start, state-front start)
 
 -- the places, each from the one behind it
 abbrev start : tie.After-next → tie.Start
-start c = c .before .before .before .before .before .before
+start c = c .before .before .before .before .before .before .before
 
 abbrev fronted : tie.After-velocities → tie.After-next
 fronted c = c .before .before
@@ -100,6 +100,7 @@ velocities-requires c κs =
     let d = c .before in
     record {
       flowing = start d .pre .flowing;
+      marked = start d .pre .marked;
       long = back-length (cells (start d)) (begun d) ∙ omega (arith, begun-long d, next-room (start d));
     }
 

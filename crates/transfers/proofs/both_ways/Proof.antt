@@ -35,8 +35,8 @@ slice-aggregate-over-faces c = sym (length-take-le _ _ (omega arith))
 over-faces-requires : tie.Need-over-faces-requires
 unfolding wide high
 over-faces-requires c κs =
-    let start = c .before .before .before in
-    record { limited = start .pre .limited; long = length-part (easts start) (start .args .part .now) (omega arith) (omega arith) }
+    let start = c .before .before .before .before in
+    record { limited = start .pre .limited; marked = start .pre .marked; long = length-part (easts start) (start .args .part .now) (omega arith) (omega arith) }
 
 mul-over-faces : tie.Need-mul-over-faces
 mul-over-faces c = search needs
@@ -60,7 +60,7 @@ same-length c = search needs
 returns : tie.Need-returns
 unfolding crossings wide high transfers
 returns c =
-    let start = c .before .before .before .before .before .before .before .before in
+    let start = c .before .before .before .before .before .before .before .before .before in
     let same : start .args .card .rows * suc (start .args .card .columns) ≡ easts start = omega arith in
     two-parts (easts start) (start .args .part .now) (c .before .before .before .before .over-faces .ensures) (c .before .over-faces2 .ensures)
     (length-grid _ _ _ ∙ same)

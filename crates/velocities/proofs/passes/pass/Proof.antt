@@ -1,6 +1,6 @@
 -- `pass`: every velocity so far fits and is stored in its place, and one that does not fit decides for all.
-use mathlib.Core.Path.{sym, _∙_}
-use Prim.Native.Nat.{_-_}
+use mathlib.Core.Path.{sym, ap₂, _∙_}
+use Prim.Native.Nat.{_*_, _-_}
 use native.Mathlib.Nat.{le-refl}
 use native.Mathlib.Omega.{arith}
 use borrow.Author.Needs.{needs}
@@ -14,16 +14,26 @@ use Rattle.velocities.proofs.passes.pass.Statement.{statement}
 use Rattle.velocities.proofs.passes.pass.Tie as tie
 
 abbrev Inv-loop2 : tie.InvT-loop2
-Inv-loop2 card east ground state tide part₀ wide high j i₀ part i = CellsTested wide (newSpeeds card ground state east) speedFits high j part₀ part i
+Inv-loop2 card east ground state tide marks part₀ wide high j rests i₀ part i = CellsTested wide (newSpeeds card ground state east) speedFits high j part₀ part i
 
 abbrev μ-loop2 : tie.MeasureT-loop2
-μ-loop2 card east ground state tide part₀ wide high j i₀ part i = wide - i
+μ-loop2 card east ground state tide marks part₀ wide high j rests i₀ part i = wide - i
 
 abbrev Inv-loop : tie.InvT-loop
-Inv-loop card east ground state tide part₀ wide high j₀ part j = RowsTested wide (newSpeeds card ground state east) speedFits high part₀ part j
+Inv-loop card east ground state tide marks part₀ wide high j₀ part j = RowsTested wide (newSpeeds card ground state east) speedFits high part₀ part j
 
 abbrev μ-loop : tie.MeasureT-loop
-μ-loop card east ground state tide part₀ wide high j₀ part j = high - j
+μ-loop card east ground state tide marks part₀ wide high j₀ part j = high - j
+
+-- the places, each from the one behind it
+abbrev start : tie.After-high Inv-loop2 μ-loop2 Inv-loop μ-loop → tie.Start Inv-loop2 μ-loop2 Inv-loop μ-loop
+start c = c .before .before .before
+
+abbrev row : tie.In-loop2 Inv-loop2 μ-loop2 Inv-loop μ-loop → tie.After-both-rest Inv-loop2 μ-loop2 Inv-loop μ-loop
+row c = c .before .before
+
+abbrev sized : tie.In-loop Inv-loop2 μ-loop2 Inv-loop μ-loop → tie.After-high Inv-loop2 μ-loop2 Inv-loop μ-loop
+sized c = c .before .before
 
 wide-requires : tie.Need-wide-requires Inv-loop2 μ-loop2 Inv-loop μ-loop
 wide-requires c κs = search needs
@@ -32,20 +42,22 @@ high-requires : tie.Need-high-requires Inv-loop2 μ-loop2 Inv-loop μ-loop
 high-requires c κs = search needs
 
 loop-holds : tie.Need-loop-holds Inv-loop2 μ-loop2 Inv-loop μ-loop
-loop-holds c = begin (rw (c .high .ensures, c .before .wide .ensures, c .before .before .pre .long) (le-refl _))
+loop-holds c = begin (rw (c .high .ensures, c .before .wide .ensures, start c .pre .long) (le-refl _))
+
+both-rest-requires : tie.Need-both-rest-requires Inv-loop2 μ-loop2 Inv-loop μ-loop
+both-rest-requires c κs = record { room = start (sized c) .pre .marked .room; row = rw (sized c .high .ensures) at (c .loop-test .taken) }
 
 loop2-holds : tie.Need-loop2-holds Inv-loop2 μ-loop2 Inv-loop μ-loop
-loop2-holds c = begin-row (c .before .loop .inv)
+loop2-holds c = begin-row (c .before .before .loop .inv)
 
 velocity-requires : tie.Need-velocity-requires Inv-loop2 μ-loop2 Inv-loop μ-loop
 velocity-requires c κs =
-    let here : tie.After-high Inv-loop2 μ-loop2 Inv-loop μ-loop = c .before .before .before .before in
+    let r = row c in
+    let d = sized (r .before) in
     record {
-      flowing = here .before .before .pre .flowing;
-      face = record {
-        column = rw (here .before .wide .ensures) at (c .loop2-test .taken);
-        row = rw (here .high .ensures) at (c .before .before .loop-test .taken);
-      };
+      flowing = start d .pre .flowing;
+      face = record { column = omega (arith, d .before .wide .ensures); row = omega (arith, d .high .ensures) };
+      both = λ t. r .both-rest .ensures t _ (start d .pre .marked);
     }
 
 speed-fits-requires : tie.Need-speed-fits-requires Inv-loop2 μ-loop2 Inv-loop μ-loop
@@ -54,15 +66,15 @@ speed-fits-requires c κs = search needs
 same-length : tie.Need-same-length Inv-loop2 μ-loop2 Inv-loop μ-loop
 same-length c =
     let d : tie.In-loop2 Inv-loop2 μ-loop2 Inv-loop μ-loop = c .before .before .before in
-    d .before .loop2 .inv .filled .same ∙ d .before .before .before .loop .inv .filled .same
+    d .before .loop2 .inv .filled .same ∙ row d .before .before .loop .inv .filled .same
 
 returns : tie.Need-returns Inv-loop2 μ-loop2 Inv-loop μ-loop
 returns c =
     let v = c .before .before .velocity in
     let d : tie.In-loop2 Inv-loop2 μ-loop2 Inv-loop μ-loop = c .before .before .before in
-    let here : tie.After-high Inv-loop2 μ-loop2 Inv-loop μ-loop = d .before .before .before .before in
-    rw (← here .before .wide .ensures, ← here .high .ensures)
-    (left (d .before .loop2 .inv) (d .before .before .loop-test .taken) (d .loop2-test .taken)
+    let h = sized (row d .before) in
+    rw (← h .before .wide .ensures, ← h .high .ensures)
+    (left (d .before .loop2 .inv) (row d .before .loop-test .taken) (d .loop2-test .taken)
     (sym (speed-says (v .result) (v .ok) (v .ensures) (c .before .speed-fits .ensures)) ∙ not-true _ (c .if1 .taken)))
 
 cast-put : tie.Need-cast-put Inv-loop2 μ-loop2 Inv-loop μ-loop
@@ -73,7 +85,7 @@ cast-put c =
 put-requires : tie.Need-put-requires Inv-loop2 μ-loop2 Inv-loop μ-loop
 put-requires c κs =
     let d : tie.In-loop2 Inv-loop2 μ-loop2 Inv-loop μ-loop = c .before .before .before .before in
-    place (d .before .loop2 .inv .filled) (d .before .before .loop-test .taken) (d .loop2-test .taken)
+    place (d .before .loop2 .inv .filled) (row d .before .loop-test .taken) (d .loop2-test .taken)
 
 add-i : tie.Need-add-i Inv-loop2 μ-loop2 Inv-loop μ-loop
 add-i c = omega arith
@@ -87,7 +99,7 @@ loop2-again c =
     let fits = not-false _ (c .before .before .before .if1 .left) in
     let v = tested .before .velocity in
     let d : tie.In-loop2 Inv-loop2 μ-loop2 Inv-loop μ-loop = tested .before .before in
-    more (d .before .loop2 .inv) (d .before .before .loop-test .taken) (d .loop2-test .taken) (c .before .put .ensures)
+    more (d .before .loop2 .inv) (row d .before .loop-test .taken) (d .loop2-test .taken) (c .before .put .ensures)
     (speed-word (v .result) (v .ok) (v .ensures) (tested .speed-fits .ensures) fits)
     (sym (speed-says (v .result) (v .ok) (v .ensures) (tested .speed-fits .ensures)) ∙ fits)
 
@@ -98,16 +110,18 @@ loop-less : tie.Need-loop-less Inv-loop2 μ-loop2 Inv-loop μ-loop
 loop-less c = omega arith
 
 loop-again : tie.Need-loop-again Inv-loop2 μ-loop2 Inv-loop μ-loop
-loop-again c = more-rows (c .before .before .before .loop .inv) (c .before .loop2 .inv) (c .before .before .loop-test .taken) (c .loop2-test .left)
+loop-again c =
+    let r = c .before .before in
+    more-rows (r .before .before .loop .inv) (c .before .loop2 .inv) (r .before .loop-test .taken) (c .loop2-test .left)
 
 same-length-2 : tie.Need-same-length-2 Inv-loop2 μ-loop2 Inv-loop μ-loop
 same-length-2 c = c .before .loop .inv .filled .same
 
 returns-2 : tie.Need-returns-2 Inv-loop2 μ-loop2 Inv-loop μ-loop
 returns-2 c =
-    let here : tie.After-high Inv-loop2 μ-loop2 Inv-loop μ-loop = c .before .before in
-    rw (← here .before .wide .ensures, ← here .high .ensures)
-    (done (c .before .loop .inv) (c .loop-test .left) (here .before .before .pre .long ∙ rw (here .before .wide .ensures, here .high .ensures)))
+    let h : tie.After-high Inv-loop2 μ-loop2 Inv-loop μ-loop = c .before .before in
+    rw (← h .before .wide .ensures, ← h .high .ensures)
+    (done (c .before .loop .inv) (c .loop-test .left) (start h .pre .long ∙ sym (ap₂ _*_ (h .high .ensures) (h .before .wide .ensures))))
 
 pub pass-spec : {M : Type 1} → statement M
 pass-spec =
@@ -120,6 +134,7 @@ pass-spec =
     wide-requires
     high-requires
     loop-holds
+    both-rest-requires
     loop2-holds
     velocity-requires
     speed-fits-requires

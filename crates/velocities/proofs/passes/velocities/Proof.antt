@@ -18,7 +18,7 @@ use Rattle.velocities.proofs.passes.velocities.Tie as tie
 
 -- the places, each from the one behind it
 abbrev start : tie.After-pass → tie.Start
-start c = c .before .before .before .before
+start c = c .before .before .before .before .before
 
 abbrev eastward : tie.Else1 → tie.After-pass
 eastward c = c .before .before
@@ -47,10 +47,10 @@ slice-aggregate-pass c = sym (length-take-le _ _ (omega arith))
 pass-requires : tie.Need-pass-requires
 unfolding wide high
 pass-requires c κs =
-    let start = c .before .before .before in
+    let start = c .before .before .before .before in
     let card = start .args .card in
     let within : card .rows * (card .columns + 1) ≤ length (start .args .part .now) = omega arith in
-    record { flowing = start .pre .flowing; long = length-part (card .rows * (card .columns + 1)) (start .args .part .now) within (omega arith) }
+    record { flowing = start .pre .flowing; marked = start .pre .marked; long = length-part (card .rows * (card .columns + 1)) (start .args .part .now) within (omega arith) }
 
 same-length : tie.Need-same-length
 same-length c = search needs
@@ -73,7 +73,7 @@ part-pass-end c = search needs
 
 pass-requires-2 : tie.Need-pass-requires-2
 unfolding wide high
-pass-requires-2 c κs = record { flowing = start (eastward (c .before)) .pre .flowing; long = search needs }
+pass-requires-2 c κs = let p = start (eastward (c .before)) .pre in record { flowing = p .flowing; marked = p .marked; long = search needs }
 
 same-length-2 : tie.Need-same-length-2
 same-length-2 c = search needs

@@ -1,4 +1,4 @@
--- `velocity`: 0 on a wall; any other face has a cell behind it, and all the numbers around it are in their ranges.
+-- `velocity`: 0 on a wall; any other face has a cell behind it, and all the numbers around it are in their ranges, be they eighteen or, at rest, four.
 use mathlib.Core.Path.{_≡_, _∙_, sym, subst}
 use mathlib.Core.Bool.{false}
 use borrow.Author.Needs.{needs}
@@ -8,21 +8,21 @@ use Rattle.layout.specs.Ways.{isWall}
 use Rattle.layout.proofs.Pointing.{beside}
 use Rattle.transfers.proofs.Sites.{time, side-fits}
 use Rattle.around.specs.Faces.{AtFace}
-use Rattle.around.proofs.Around.{inner-at}
 use Rattle.around.proofs.Flows.{sound-of}
-use Rattle.around.proofs.Ranges.{face-fits}
-use Rattle.velocities.proofs.Velocities.{new-is}
+use Rattle.around.proofs.Ranges.{face-fits, still-place, still-fits}
+use Rattle.velocities.proofs.Velocities.{new-is, at-face, inner-is, still-is}
 use Rattle.velocities.proofs.passes.velocity.Statement.{statement}
 use Rattle.velocities.proofs.passes.velocity.Tie as tie
 
 no-wall : (c : tie.Else1) → let a = c .before .before .args in isWall (a .card) (a .east) (a .i) (a .j) ≡ false
 no-wall c = sym (c .before .is-wall .ensures) ∙ c .if1 .left
 
-inner : (c : tie.After-back2) → let a = c .before .before .before .before .args in AtFace (a .card) (a .ground .now) (a .state .now) (a .tide .now) (a .east) (c .before .back .result) (c .back2 .result)
-inner c =
-    let else = c .before .before in
-    let pre = else .before .before .pre in
-    rw (c .before .back .ensures, c .back2 .ensures) (inner-at (pre .flowing) _ (pre .face) (no-wall else))
+-- where cell K is known
+abbrev start : tie.After-back2 → tie.Start
+start c = c .before .before .before .before
+
+inner : (c : tie.After-back2) → let a = start c .args in AtFace (a .card) (a .ground .now) (a .state .now) (a .tide .now) (a .east) (c .before .back .result) (c .back2 .result)
+inner c = let p = start c .pre in at-face (p .flowing) _ (p .face) (no-wall (c .before .before)) (c .before .back .ensures) (c .back2 .ensures)
 
 is-wall-requires : tie.Need-is-wall-requires
 is-wall-requires c κs = search needs
@@ -36,28 +36,62 @@ back-requires c κs = beside _ _ _ _ (c .before .before .pre .face) (no-wall c) 
 back-requires-2 : tie.Need-back-requires-2
 back-requires-2 c κs = beside _ _ _ _ (c .before .before .before .pre .face) (no-wall (c .before)) .back-north
 
+-- ---- in a row at rest
+
 face-requires : tie.Need-face-requires
-face-requires c κs = inner c
+face-requires c κs = still-place (inner (c .before))
 
 side-requires : tie.Need-side-requires
 side-requires c κs = search needs
 
 new-velocity-requires : tie.Need-new-velocity-requires
 new-velocity-requires c κs =
-    let sound = sound-of (c .before .before .before .before .before .before .pre .flowing) in
+    let b = c .before .before .before in
+    let sound = sound-of (start b .pre .flowing) in
     record {
-      face = subst FaceFits (sym (c .before .face .ensures)) (face-fits (inner (c .before .before)));
+      face = subst FaceFits (sym (c .before .face .ensures)) (still-fits (inner b));
       time = time sound;
       side = rw (c .side .ensures) (side-fits sound _);
     }
 
 returns-2 : tie.Need-returns-2
 returns-2 c =
-    let else = c .before .before .before .before .before in
+    let s = c .before in
+    let t = s .before .before in
+    let b = t .before in
+    let p = start b .pre in
     toZ-ofZ (record { sfits = c .new-velocity .ok })
     ∙ c .new-velocity .ensures
-    ∙ rw (c .before .side .ensures, c .before .before .face .ensures, c .before .before .before .before .back .ensures, c .before .before .before .back2 .ensures)
-    (sym (new-is _ _ _ _ (else .before .before .pre .face) ∙ rw (no-wall else)))
+    ∙ rw (s .before .face .ensures)
+    (still-is (p .flowing) _ (p .face) (no-wall (b .before .before)) (b .before .back .ensures) (b .back2 .ensures) (s .side .ensures) (p .both (t .if2 .taken)))
+
+-- ---- in any other
+
+face-requires-2 : tie.Need-face-requires-2
+face-requires-2 c κs = inner (c .before)
+
+side-requires-2 : tie.Need-side-requires-2
+side-requires-2 c κs = search needs
+
+new-velocity-requires-2 : tie.Need-new-velocity-requires-2
+new-velocity-requires-2 c κs =
+    let b = c .before .before .before in
+    let sound = sound-of (start b .pre .flowing) in
+    record {
+      face = subst FaceFits (sym (c .before .face2 .ensures)) (face-fits (inner b));
+      time = time sound;
+      side = rw (c .side2 .ensures) (side-fits sound _);
+    }
+
+returns-3 : tie.Need-returns-3
+returns-3 c =
+    let s = c .before in
+    let b = s .before .before .before in
+    let p = start b .pre in
+    toZ-ofZ (record { sfits = c .new-velocity2 .ok })
+    ∙ c .new-velocity2 .ensures
+    ∙ rw (s .before .face2 .ensures)
+    (inner-is (p .flowing) _ (p .face) (no-wall (b .before .before)) (b .before .back .ensures) (b .back2 .ensures) (s .side2 .ensures))
 
 pub velocity-spec : {M : Type 1} → statement M
 velocity-spec =
@@ -70,4 +104,8 @@ velocity-spec =
     face-requires
     side-requires
     new-velocity-requires
-    returns-2)
+    returns-2
+    face-requires-2
+    side-requires-2
+    new-velocity-requires-2
+    returns-3)
