@@ -26,7 +26,7 @@ fn search_check(
         return front;
     }
     let asked = register::asked_fits(card, xs, ys, window, depth);
-    site::check_also(card, ground, state, true, register, asked)
+    site::values_number(card, ground, state, asked)
 }
 
 fn blank() -> [u32; 1000]

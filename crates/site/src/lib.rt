@@ -2,7 +2,8 @@
 ghost use mathlib.Core.Path.{_≡_};
 ghost use mathlib.Core.Bool.{true};
 ghost use Rattle.rules.specs.Site.{cardFits, lengthsFit, checkAlso, check as Site·check, checkWith};
-ghost use Rattle.site.specs.Front.{frontAlso};
+ghost use Rattle.laws.specs.Facts.{Sized};
+ghost use Rattle.site.specs.Front.{frontAlso, valuesAlso};
 use rules::Card;
 
 // Whether ground and state have the lengths that the card asks for.
@@ -28,6 +29,18 @@ pub fn front(card: Card, ground: &[i32], state: &[i32], one: bool, two: bool) ->
     0
 }
 
+// Where the front has passed: 3 or 0.
+pub fn values_number(card: Card, ground: &[i32], state: &[i32], three: bool) -> u32
+    requires { ⌜ Sized card (now ground) (now state) ⌝ }
+    ensures { λ r. ⌜ r ≡ valuesAlso three card (now (ground .entry)) (now (state .entry)) ⌝ }
+{
+    let fit = three & values::values_fit(card, ground, state);
+    if !fit {
+        return 3;
+    }
+    0
+}
+
 // The lowest number that applies. What a call asks besides, for 1, for 2 and for 3, it has looked at itself.
 pub fn check_also(
     card: Card,
@@ -43,11 +56,7 @@ pub fn check_also(
     if number != 0 {
         return number;
     }
-    let fit = three & values::values_fit(card, ground, state);
-    if !fit {
-        return 3;
-    }
-    0
+    values_number(card, ground, state, three)
 }
 
 // Where one more list is lent, of `room` words, that is to be as long as the state.
