@@ -26,6 +26,7 @@ pub mod Gather
 pub mod Between
 pub mod Values
 pub mod Facts
+pub mod Strides
 pub mod Sheets
 pub mod Outcomes
 pub mod Along

@@ -1,6 +1,6 @@
 -- The shape of a sheet: its size and its parts, and what its reader's number 0 says.
 use Prim.Native.Nat.{ℕ, suc, _+_, _*_, _≤_}
-use mathlib.Core.Path.{_≡_, refl, _∙_}
+use mathlib.Core.Path.{_≡_, refl, ap, ap₂, _∙_}
 use mathlib.Core.Bool.{Bool, true, false, cond, and-true}
 use mathlib.Core.List.{List, _++_}
 use native.Mathlib.Nat.{mul-suc, suc-mul, suc-ne-zero}
@@ -11,7 +11,7 @@ use lib.Dec.{leb, eqb, leb→le, eqb→eq}
 use borrow.Author.Tests.{eq-eqb}
 use Rattle.rules.specs.declared.Card.{Card}
 use Rattle.rules.specs.Site.{cells, stateLength, cardFits, lengthsFit, valuesFit, readGround, readState, firstOf, checkAlso}
-use Rattle.rules.specs.Sheet.{bytesOf, numberIn, wordsBytes, sheetSize, header, sheetOf, cardIn, groundIn, stateIn, headFits, sheetLengthsFit, readNumber}
+use Rattle.rules.specs.Sheet.{bytesOf, numberIn, wordsBytes, wordsIn, sheetSize, header, sheetOf, cardIn, groundIn, stateIn, headFits, sheetLengthsFit, readNumber}
 use Rattle.laws.specs.Tests.{true-of, to-T, three-of}
 use Rattle.laws.specs.Facts.{card-facts, granted}
 use Rattle.laws.specs.Words.{length-words, length-in}
@@ -92,6 +92,15 @@ length-ground-in l = length-in _ (drop 19 l)
 pub length-state-in : (l : List ℕ) → length (stateIn l) ≡ stateLength (cardIn l)
 unfolding stateIn
 length-state-in l = length-in _ (drop (19 + 4 * cells (cardIn l)) l)
+
+-- and are the words that stand in the bytes
+pub ground-there : (l : List ℕ) {n : ℕ} → n ≡ cells (cardIn l) → wordsIn n (drop 19 l) ≡ groundIn l
+unfolding groundIn
+ground-there l e = ap (λ (k : ℕ). wordsIn k (drop 19 l)) e
+
+pub state-there : (l : List ℕ) {n m : ℕ} → n ≡ cells (cardIn l) → m ≡ stateLength (cardIn l) → wordsIn m (drop (19 + 4 * n) l) ≡ stateIn l
+unfolding stateIn
+state-there l e f = ap₂ (λ (i j : ℕ). wordsIn j (drop (19 + 4 * i) l)) e f
 
 pub read-lengths : (l : List ℕ) → lengthsFit (cardIn l) (groundIn l) (stateIn l) ≡ true
 unfolding lengthsFit

@@ -1,15 +1,17 @@
 -- The tests of a site's values by column and row, each as one test along the flat list.
-use Prim.Native.Nat.{ℕ, suc, _+_, _*_}
+use Prim.Native.Nat.{ℕ, suc, _+_, _*_, _-_}
 use mathlib.Core.Path.{_≡_, sym, ap₂, _∙_}
 use mathlib.Core.Bool.{Bool, _&&_}
 use mathlib.Core.List.{List}
+use native.Mathlib.Nat.{zero-add}
 use native.Mathlib.Numerals.{add-one}
 use native.Mathlib.Omega.{arith}
-use lib.IntN.{ℤ, pos}
+use lib.IntN.{ℤ, pos, negsuc}
 use lib.ListN.{getD}
 use Rattle.rules.specs.declared.Card.{Card}
 use Rattle.rules.specs.Grid.{all}
-use Rattle.rules.specs.Site.{readGround, readState, groundFits, heightFits, speedFits, isZero, groundsFit, heightsFit, velocitiesFit, wallsStill}
+use Rattle.rules.specs.Site.{cells, stateLength, readGround, readState, groundFits, heightFits, speedFits, isZero, groundsFit, heightsFit, velocitiesFit, wallsStill, valuesFit}
+use Rattle.laws.specs.Between.{between, size-between}
 use Rattle.laws.specs.Grids.{all-same}
 use Rattle.laws.specs.Flat.{flat, all-add}
 
@@ -30,6 +32,32 @@ faces-flat c s =
     let fits : ℕ → Bool = λ k. speedFits (getD s (c .rows * c .columns + k) (pos 0)) in
     ap₂ _&&_ (flat (suc (c .columns)) (c .rows) fits) (flat (c .columns) (suc (c .rows)) (λ k. fits (east + k)))
     ∙ sym (all-add east (suc (c .rows) * c .columns) fits)
+
+-- ---- all four tests of the values as the code makes them: three bands of words, each between two ends, and the walls
+
+-- the words of a list from `base` on, under two tests that agree
+agree : (n base : ℕ) (l : List ℤ) (p q : ℤ → Bool) → ((z : ℤ) → q z ≡ p z) → all n (λ k. q (getD l (base + k) (pos 0))) ≡ all n (λ k. p (getD l (base + k) (pos 0)))
+agree n base l p q h = all-same n (λ k. p (getD l (base + k) (pos 0))) (λ k. q (getD l (base + k) (pos 0))) (λ k b. h (getD l (base + k) (pos 0)))
+
+from-0 : (n : ℕ) (l : List ℤ) (p : ℤ → Bool) → all n (λ k. p (getD l (0 + k) (pos 0))) ≡ all n (λ k. p (getD l k (pos 0)))
+from-0 n l p = all-same n (λ k. p (getD l k (pos 0))) (λ k. p (getD l (0 + k) (pos 0))) (λ k b. rw zero-add)
+
+faces : (c : Card) → stateLength c - cells c ≡ c .rows * suc (c .columns) + suc (c .rows) * c .columns
+unfolding stateLength
+faces c = omega arith
+
+pub values-joined : (c : Card) (g s : List ℤ) {grounds depths speeds walls : Bool}
+    → grounds ≡ all (cells c) (λ k. between (negsuc 49999999) (pos 50000000) (getD g (0 + k) (pos 0)))
+    → depths ≡ all (cells c) (λ k. between (pos 0) (pos 50000000) (getD s (0 + k) (pos 0)))
+    → speeds ≡ all (stateLength c - cells c) (λ k. between (negsuc 19999999) (pos 20000000) (getD s (cells c + k) (pos 0)))
+    → walls ≡ wallsStill c (readState c s)
+    → (grounds && depths && speeds && walls) ≡ valuesFit c (readGround c g) (readState c s)
+unfolding valuesFit
+values-joined c g s {speeds = v} p q r w =
+    let e₁ = p ∙ agree (cells c) 0 g _ _ (size-between 49999999) ∙ from-0 (cells c) g groundFits ∙ sym (grounds-flat c g) in
+    let e₂ = q ∙ from-0 (cells c) s heightFits ∙ sym (depths-flat c s) in
+    let e₃ : v ≡ velocitiesFit c (readState c s) = r ∙ rw (faces c) (agree _ (cells c) s _ _ (size-between 19999999) ∙ sym (faces-flat c s)) in
+    cc (e₁, e₂, e₃, w)
 
 -- the four walls as they stand in the list: in each row its first and its last eastward face, and the first and the last row of northward ones
 still-same : (n : ℕ) (s : List ℤ) (f h f′ h′ : ℕ → ℕ) → ((k : ℕ) → f k ≡ f′ k) → ((k : ℕ) → h k ≡ h′ k)

@@ -2,7 +2,7 @@
 use Prim.Native.Nat.{ℕ, zero, suc, _+_, _*_, _<_, _≤_}
 use mathlib.Core.Path.{_≡_, refl, sym, ap, ap₂, _∙_, subst⁻¹}
 use mathlib.Core.List.{List, [], _∷_, _++_, append-assoc, append-nil}
-use native.Mathlib.Nat.{zero-add}
+use native.Mathlib.Nat.{zero-add, not-suc-le-zero, le-of-suc-le-suc}
 use native.Mathlib.Numerals.{add-one}
 use native.Mathlib.Omega.{arith}
 use lib.IntN.{ℤ, pos, negsuc}
@@ -99,6 +99,22 @@ one-in l = refl
 
 pub in-more : (n : ℕ) (l : List ℕ) → wordsIn (n + 1) l ≡ wordsIn n l ++ (valueOf (numberIn 4 (drop (4 * n) l)) ∷ [])
 in-more n l = in-add n 1 l ∙ ap (λ (r : List ℤ). wordsIn n l ++ r) (one-in (drop (4 * n) l))
+
+-- the word at place k of those that stand from index `at` on
+unfoldable pub wordAt : List ℕ → (at k : ℕ) → ℤ
+wordAt l at k = valueOf (numberIn 4 (drop (at + 4 * k) l))
+
+place-in : (n : ℕ) (l : List ℕ) (k : ℕ) → k < n → getD (wordsIn n l) k (pos 0) ≡ valueOf (numberIn 4 (drop (4 * k) l))
+unfolding wordsIn
+place-in zero l k h = absurd (not-suc-le-zero h)
+place-in (suc n) l zero h = refl
+place-in (suc n) l (suc k) h =
+    let e : 4 + 4 * k ≡ 4 * suc k = omega arith in
+    place-in n (drop 4 l) k (le-of-suc-le-suc h) ∙ ap (λ (r : List ℕ). valueOf (numberIn 4 r)) (drop-drop (4 * k) 4 l ∙ ap (λ (i : ℕ). drop i l) e)
+
+pub getD-in : (n : ℕ) (l : List ℕ) (at k : ℕ) → k < n → getD (wordsIn n (drop at l)) k (pos 0) ≡ wordAt l at k
+unfolding wordAt
+getD-in n l at k h = place-in n (drop at l) k h ∙ ap (λ (r : List ℕ). valueOf (numberIn 4 r)) (drop-drop (4 * k) at l)
 
 -- ---- there and back
 

@@ -9,7 +9,8 @@ ghost use Rattle.laws.specs.Between.{between};
 ghost use Rattle.laws.specs.Facts.{Sized};
 use rules::Card;
 
-fn is_between(low: i32, high: i32, z: i32) -> bool
+// Whether a word lies between two ends.
+pub fn is_between(low: i32, high: i32, z: i32) -> bool
     ensures { λ r. ⌜ r ≡ between low high z ⌝ }
 {
     (low <= z) & (z <= high)

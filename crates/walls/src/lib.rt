@@ -6,10 +6,12 @@ ghost use lib.IntN.{pos};
 ghost use lib.ListN.{length, getD};
 ghost use Rattle.rules.specs.Grid.{all};
 ghost use Rattle.rules.specs.Site.{isZero, wallsStill, readState};
-ghost use Rattle.walls.specs.Lent.{Whole, Strides};
+ghost use Rattle.laws.specs.Strides.{Strides};
+ghost use Rattle.walls.specs.Lent.{Whole};
 use rules::Card;
 
-fn is_zero(z: i32) -> bool
+// Whether a word is 0.
+pub fn is_zero(z: i32) -> bool
     ensures { λ r. ⌜ r ≡ isZero z ⌝ }
 {
     (0 <= z) & (z <= 0)

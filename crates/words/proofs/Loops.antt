@@ -9,15 +9,16 @@ use lib.ListN.{length, take, drop, getD, set}
 use lib.Seq.{drop-cons, drop-drop, drop-length, set-at, take-all, length-take-le}
 use Rattle.rules.specs.Sheet.{bytesOf, numberIn, bitsOf, valueOf, wordsIn, wordsBytes}
 use Rattle.laws.specs.Laid.{laid, laid-none, laid-laid}
-use Rattle.laws.specs.Words.{length-in, in-more, in-none, length-words, words-more, words-none}
+use Rattle.laws.specs.Words.{wordAt, length-in, in-more, in-none, length-words, words-more, words-none}
 
 -- ---- get_words: the first i words are read; old is the list that was lent
 
 pub in-start : (old : List ℤ) (l : List ℕ) → old ≡ wordsIn 0 l ++ drop 0 old
 in-start old l = ap (λ (r : List ℤ). r ++ old) (sym (in-none l))
 
-pub in-turn : (old words : List ℤ) (i at : ℕ) (s : List ℕ) (w : ℤ) → i < length old → words ≡ wordsIn i (drop at s) ++ drop i old → w ≡ valueOf (numberIn 4 (drop (at + 4 * i) s))
+pub in-turn : (old words : List ℤ) (i at : ℕ) (s : List ℕ) (w : ℤ) → i < length old → words ≡ wordsIn i (drop at s) ++ drop i old → w ≡ wordAt s at i
     → set words i w ≡ wordsIn (i + 1) (drop at s) ++ drop (i + 1) old
+unfolding wordAt
 in-turn old words i at s w h p e =
     let l = drop at s in
     let f : w ≡ valueOf (numberIn 4 (drop (4 * i) l)) = e ∙ ap (λ (r : List ℕ). valueOf (numberIn 4 r)) (sym (drop-drop (4 * i) at s)) in

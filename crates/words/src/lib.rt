@@ -5,6 +5,7 @@ ghost use lib.ListN.{length, drop};
 ghost use Rattle.rules.specs.Sheet.{numberIn, bytesOf, wordsIn, wordsBytes};
 ghost use Rattle.laws.specs.Laid.{laid};
 ghost use Rattle.laws.specs.Swapped.{swapped};
+ghost use Rattle.laws.specs.Words.{wordAt};
 
 // A number of four bytes with its bytes in the other order.
 fn swapped(n: u32) -> u32
@@ -38,13 +39,21 @@ fn put_word(out: &mut [u8], at: usize, n: u32)
     out[at + 3] = (m / 16777216) as u8;
 }
 
+// The word at place k of those that stand from index `at` on.
+pub fn word_at(s: &[u8], at: usize, k: usize) -> i32
+    requires { ⌜ at + 4 * k + 4 ≤ length (now s) ⌝ }
+    ensures { λ r. ⌜ r ≡ wordAt (now (s .entry)) at k ⌝ }
+{
+    bits::value_of(word(s, at + 4 * k))
+}
+
 // Reads as many words as the list has.
 pub fn get_words(s: &[u8], at: usize, words: &mut [i32])
     requires { ⌜ at + 4 * length (now words) ≤ length (now s) ⌝ }
     ensures { λ _. ⌜ now (words .exit) ≡ wordsIn (length (now (words .entry))) (drop at (now (s .entry))) ⌝ }
 {
     for i in 0..words.len() {
-        words[i] = bits::value_of(word(s, at + 4 * i));
+        words[i] = word_at(s, at, i);
     }
 }
 

@@ -1,12 +1,12 @@
 -- `get_words`: one turn reads one word more.
-use mathlib.Core.Path.{_≡_, refl, ap, _∙_}
+use mathlib.Core.Path.{_≡_, refl, _∙_}
 use mathlib.Core.List.{_++_}
 use Prim.Native.Nat.{_-_, _≤_}
 use native.Mathlib.Omega.{arith}
 use lib.ListN.{length, drop, length-set}
 use mir.Syntax.{w32}
 use mir.ValLaws.{toZ-ofZ}
-use Rattle.rules.specs.Sheet.{valueOf, wordsIn}
+use Rattle.rules.specs.Sheet.{wordsIn}
 use Rattle.words.proofs.Loops.{in-start, in-turn, in-end}
 use Rattle.words.proofs.get_words.Statement.{statement}
 use Rattle.words.proofs.get_words.Tie as tie
@@ -20,20 +20,11 @@ abbrev μ-loop : tie.MeasureT-loop
 loop-holds : tie.Need-loop-holds Inv-loop μ-loop
 loop-holds c = (refl, omega arith, refl, in-start _ _)
 
-mul-word : tie.Need-mul-word Inv-loop μ-loop
-mul-word c = omega arith
+word-at-requires : tie.Need-word-at-requires Inv-loop μ-loop
+word-at-requires c κs = omega arith
 
-add-word : tie.Need-add-word Inv-loop μ-loop
-add-word c = omega arith
-
-word-requires : tie.Need-word-requires Inv-loop μ-loop
-word-requires c κs = omega arith
-
-value-of-requires : tie.Need-value-of-requires Inv-loop μ-loop
-value-of-requires c κs = tt
-
-mul-t11 : tie.Need-mul-t11 Inv-loop μ-loop
-mul-t11 c = omega arith
+mul-t8 : tie.Need-mul-t8 Inv-loop μ-loop
+mul-t8 c = omega arith
 
 slice-set-from-words : tie.Need-slice-set-from-words Inv-loop μ-loop
 slice-set-from-words c = omega arith
@@ -46,9 +37,9 @@ loop-less c = omega arith
 
 loop-again : tie.Need-loop-again Inv-loop μ-loop
 loop-again c =
-    let l = c .before .before .before .loop in
-    let a = c .before .before .before .before .before .args in
-    let word = toZ-ofZ w32 (c .value-of .result) (record { sfits = c .value-of .ok }) ∙ c .value-of .ensures ∙ ap valueOf (c .before .word .ensures) in
+    let l = c .before .before .loop in
+    let a = c .before .before .before .before .args in
+    let word = toZ-ofZ w32 (c .word-at .result) (record { sfits = c .word-at .ok }) ∙ c .word-at .ensures in
     (refl, omega arith, length-set (l .words) (l .i) _ ∙ l .inv .2, in-turn (a .words .now) (l .words) (l .i) (a .at) (a .s .now) _ (omega arith) (l .inv .3) word)
 
 same-length : tie.Need-same-length Inv-loop μ-loop
@@ -67,11 +58,8 @@ get-words-spec =
     Inv-loop
     μ-loop
     loop-holds
-    mul-word
-    add-word
-    word-requires
-    value-of-requires
-    mul-t11
+    word-at-requires
+    mul-t8
     slice-set-from-words
     add-i
     loop-less
