@@ -1,5 +1,5 @@
-// The sheet reader. It looks for 9 first, then 1, 2 and 3. Every word is read into a draft and checked there, and only then are the lent lists filled.
-mod draft;
+// The sheet reader. It looks for 9 first, then 1, 2 and 3. The values are looked at where they stand in the sheet's bytes, and only then are the lent lists filled.
+mod look;
 mod own;
 mod reader;
 

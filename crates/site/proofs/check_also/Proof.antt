@@ -1,6 +1,6 @@
 -- `check_also`: the front's number, and then the values'.
 use borrow.Author.Needs.{needs}
-use mathlib.Core.Path.{_≡_, sym, _∙_}
+use mathlib.Core.Path.{sym, _∙_}
 use Rattle.rules.specs.Site.{checkAlso}
 use Rattle.laws.specs.Checks.{by-front}
 use Rattle.site.specs.Front.{frontAlso, front-sized, front-passed}

@@ -19,8 +19,8 @@ returns c =
     let number = f .front-number .ensures ∙ front-refused _ _ _ (λ z. c .before .if1 .taken (f .front-number .ensures ∙ z)) in
     refused (a .sheet .now) (a .ground .now) (a .state .now) (f .front-number .result) number (c .no-card .result) (c .no-card .ensures) (c .before .if1 .taken)
 
-read-within-requires : tie.Need-read-within-requires
-read-within-requires c κs = front-facts _ _ _ (search needs)
+read-values-requires : tie.Need-read-values-requires
+read-values-requires c κs = front-facts _ _ _ (search needs)
 
 same-length : tie.Need-same-length
 same-length c = search needs
@@ -38,7 +38,7 @@ read-sheet-spec =
     front-number-requires
     no-card-requires
     returns
-    read-within-requires
+    read-values-requires
     same-length
     same-length-2
     returns-2)

@@ -1,4 +1,4 @@
--- `own_number_over`: the lists have the lengths that the header asks for.
+-- `own_number`: the lists have the lengths that the header asks for.
 use mathlib.Core.Path.{_≡_, sym, ap, _∙_}
 use mathlib.Core.Bool.{true}
 use borrow.Author.Tests.{not-true, not-false}
@@ -6,9 +6,10 @@ use Rattle.rules.specs.Site.{cells, stateLength, cardFits}
 use Rattle.rules.specs.Sheet.{cardIn, headFits, readNumber}
 use Rattle.laws.specs.Sheets.{head-facts}
 use Rattle.sheet.specs.Front.{front-9, front-1, front-told, front-refused, front-facts}
+use Rattle.sheet_reader.proofs.Reading.{front-own}
 use borrow.Author.Needs.{needs}
-use Rattle.sheet_reader.proofs.own.own_number_over.Statement.{statement}
-use Rattle.sheet_reader.proofs.own.own_number_over.Tie as tie
+use Rattle.sheet_reader.proofs.own.own_number.Statement.{statement}
+use Rattle.sheet_reader.proofs.own.own_number.Tie as tie
 
 -- what is known at each place where a test was passed
 head : (e : tie.Else1) → headFits (e .before .before .before .args .sheet .now) ≡ true
@@ -56,17 +57,14 @@ returns-3 c =
     let f = c .before in
     f .front-number .ensures ∙ front-refused _ _ _ (λ z. c .if3 .taken (f .front-number .ensures ∙ z)) ∙ own (f .before)
 
-look-requires : tie.Need-look-requires
-look-requires c κs = record { front = front-facts _ _ _ (search needs); room = search needs }
-
-same-length : tie.Need-same-length
-same-length c = search needs
+values-number-requires : tie.Need-values-number-requires
+values-number-requires c κs = front-own _ _ _ (front-facts _ _ _ (sym (c .before .front-number .ensures) ∙ c .if3 .left))
 
 returns-4 : tie.Need-returns-4
-returns-4 c = let w = c .before in w .look .ensures .0 ∙ own (w .before .before .before .before)
+returns-4 c = search needs
 
-pub own-number-over-spec : {M : Type 1} → statement M
-own-number-over-spec =
+pub own-number-spec : {M : Type 1} → statement M
+own-number-spec =
     tie.close
     (tie.spec
     head-fits-requires
@@ -78,6 +76,5 @@ own-number-over-spec =
     state-length-requires
     front-number-requires
     returns-3
-    look-requires
-    same-length
+    values-number-requires
     returns-4)
