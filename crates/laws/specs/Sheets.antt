@@ -85,7 +85,7 @@ read-facts l n m e =
     record { head = head-facts l (h .0); card = p .sound .card; sizes = size-facts l n m (true-of _ (p .for-2)); values = p .sound .values }
 
 -- the lists that are read have the lengths that the card asks for
-pub length-ground-in : (l : List ℕ) → length (groundIn l) ≡ cardIn l .rows * cardIn l .columns
+length-ground-in : (l : List ℕ) → length (groundIn l) ≡ cardIn l .rows * cardIn l .columns
 unfolding groundIn
 length-ground-in l = length-in _ (drop 19 l)
 

@@ -78,7 +78,7 @@ length-in zero l = refl
 length-in (suc n) l = ap suc (length-in n (drop 4 l))
 
 -- some words, and those behind them
-pub in-add : (n m : ℕ) (l : List ℕ) → wordsIn (n + m) l ≡ wordsIn n l ++ wordsIn m (drop (4 * n) l)
+in-add : (n m : ℕ) (l : List ℕ) → wordsIn (n + m) l ≡ wordsIn n l ++ wordsIn m (drop (4 * n) l)
 unfolding wordsIn
 in-add zero m l = ap (λ (k : ℕ). wordsIn k l) (zero-add m)
 in-add (suc n) m l =

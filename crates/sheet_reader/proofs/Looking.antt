@@ -23,14 +23,14 @@ module _ (l : List ℕ) (at m : ℕ) where
   shifted from base k e = let i : from + 4 * k ≡ at + 4 * (base + k) = omega arith in ap (λ (j : ℕ). valueOf (numberIn 4 (drop j l))) i
 
   -- n words from place `base` on
-  pub band-in : (p : ℤ → Bool) (from base n : ℕ) → from ≡ at + 4 * base → base + n ≤ m
+  band-in : (p : ℤ → Bool) (from base n : ℕ) → from ≡ at + 4 * base → base + n ≤ m
       → all n (λ k. p (wordAt l from k)) ≡ all n (λ k. p (getD (wordsIn m (drop at l)) (base + k) (pos 0)))
   band-in p from base n e h =
       all-same n (λ k. p (getD (wordsIn m (drop at l)) (base + k) (pos 0))) (λ k. p (wordAt l from k))
       (λ k b. ap p (shifted from base k e ∙ sym (getD-in m l at (base + k) (omega arith))))
 
   -- n pairs
-  pub pairs-in : (first second stride n : ℕ) → Strides m first second stride n
+  pairs-in : (first second stride n : ℕ) → Strides m first second stride n
       → all n (λ k. isZero (wordAt l at (first + k * stride)) && isZero (wordAt l at (second + k * stride)))
       ≡ all n (λ k. isZero (getD (wordsIn m (drop at l)) (first + k * stride) (pos 0)) && isZero (getD (wordsIn m (drop at l)) (second + k * stride) (pos 0)))
   pairs-in first second stride n s =
