@@ -18,8 +18,7 @@ fn at_rest(card: Card, east: bool, state: &[i32], i: usize, j: usize) -> bool
     requires { ⌜ FacePlace card (now state) east i j ⌝ }
     ensures { λ r. ⌜ r ≡ isZero (speeds (readState card (now (state .entry))) east i j) ⌝ }
 {
-    let u = words::face_at(card, east, state, i, j);
-    (0 <= u) & (u <= 0)
+    walls::is_zero(words::face_at(card, east, state, i, j))
 }
 
 // Whether every face of row j that points this way has. Where water moves, the middle of the row does in nearly every state: so that is looked at first.
