@@ -1,10 +1,10 @@
--- A transfer as the code computes it.
+-- A transfer as the code computes it: one quotient, and nothing where the upwind cell is empty.
 use Prim.Native.Nat.{ℕ, zero, suc, _*_, _/_}
-use mathlib.Core.Path.{_≡_, refl, _∙_}
+use mathlib.Core.Path.{_≡_, refl, sym, _∙_}
 use mathlib.Core.Bool.{cond}
 use native.Mathlib.Nat.{zero-mul, mul-zero, zero-div}
 use lib.Dec.{T, leb·suc-zero}
-use lib.IntN.{ℤ, pos, negsuc, negℤ, natAbs, _*ℤ_}
+use lib.IntN.{ℤ, pos, negsuc, negℤ, natAbs, _*ℤ_, zero-*ℤ}
 use lib.Signed.{leZ, ltZ, quotZ}
 use Rattle.rules.specs.Step.{transfer}
 use Rattle.laws.specs.Numbers.{neg-mul, neg-quot}
@@ -24,3 +24,7 @@ unfolding transfer
 transfer-quot hK hL (pos zero) dt d p q = ahead hK 0 dt (1000 * d) p ∙ simp (mul-zero, zero-mul, zero-div)
 transfer-quot hK hL (pos (suc n)) dt d p q = rw leb·suc-zero (ahead hK (suc n) dt (1000 * d) p)
 transfer-quot hK hL (negsuc n) dt d p q = back hL n dt (1000 * d) q
+
+-- an empty upwind cell
+pub transfer-none : (hK hL u : ℤ) (dt d : ℕ) → T (leZ (pos 0) hK) → T (leZ (pos 0) hL) → cond (ltZ u (pos 0)) hL hK ≡ pos 0 → pos 0 ≡ transfer dt d hK hL u
+transfer-none hK hL u dt d p q e = sym (rw (e, zero-*ℤ, zero-mul, zero-div)) ∙ transfer-quot hK hL u dt d p q

@@ -1,5 +1,5 @@
 // The arithmetic of one cell and of what crosses one face, for the first half of a step: what each function returns is a definition of
-// `rules`. One division, for a transfer.
+// `rules`. One division, for a transfer, and none where the upwind cell is empty.
 ghost use mathlib.Core.Path.{_≡_};
 ghost use mathlib.Core.Bool.{cond};
 ghost use Prim.Native.Nat.{_+_, _*_};
@@ -24,6 +24,9 @@ pub fn transfer(hk: i32, hl: i32, u: i32, dt: u32, d: u32) -> i64
     ensures { λ r. ⌜ r ≡ step.transfer dt d hk hl u ⌝ }
 {
     let h = upwind(hk, hl, u);
+    if h == 0 {
+        return 0;
+    }
     let top = (h as i64) * (u as i64) * (dt as i64);
     let below = 1000 * (d as i64);
     top / below

@@ -1,14 +1,15 @@
--- `transfer`: no product wraps, and for a height of 0 or more the quotient towards zero is the floor of the size, with u's sign.
+-- `transfer`: an empty upwind cell sends nothing; else no product wraps, and for a height of 0 or more the quotient towards zero is the floor of the size,
+-- with u's sign.
 use mathlib.Core.Path.{_≡_, _∙_}
 use mathlib.Core.Bool.{cond}
 use native.Mathlib.Omega.{arith}
 use lib.IntN.{pos}
 use lib.Signed.{ltZ}
 use mir.Facts.{toZ-ofZ}
-use mir.Syntax.{w64}
-use Rattle.laws.specs.Exact.{Node, fits, value, divides, int, nat, lit, result, mul, quot, cast}
+use mir.Syntax.{w32, w64}
+use Rattle.laws.specs.Exact.{Node, fits, value, divides, is-zero, int, nat, lit, result, mul, quot, cast}
 use Rattle.face.proofs.Bounds.{height-within, either-within}
-use Rattle.face.proofs.Laws.{transfer-quot}
+use Rattle.face.proofs.Laws.{transfer-quot, transfer-none}
 use Rattle.face.proofs.transfer.Statement.{statement}
 use Rattle.face.proofs.transfer.Tie as tie
 
@@ -16,8 +17,11 @@ came : (c : tie.After-upwind) → let i = c .before .args in c .upwind .result �
 came c = c .upwind .ensures ∙ rw (toZ-ofZ (c .before .fits .u), toZ-ofZ (c .before .fits .hl), toZ-ofZ (c .before .fits .hk))
 
 -- the operations, in the code's order
+abbrev upwind : tie.After-upwind → Node w32
+upwind c = result (came c) (either-within (ltZ (c .before .args .u) (pos 0)) (height-within (c .before .pre .heightL)) (height-within (c .before .pre .heightK))) tt
+
 abbrev h : tie.After-upwind → Node w64
-h c = cast (result (came c) (either-within (ltZ (c .before .args .u) (pos 0)) (height-within (c .before .pre .heightL)) (height-within (c .before .pre .heightK))) tt) tt
+h c = cast (upwind c) tt
 
 abbrev u : tie.After-upwind → Node w64
 u c = cast (int (c .before .pre .speed) tt) tt
@@ -39,40 +43,48 @@ below c = mul (lit 1000 tt) (d c) tt
 
 -- what it returns; then that each operation fits
 returns : tie.Need-returns
-returns c = value (quot (top c) (below c)) ∙ transfer-quot _ _ _ _ _ (c .before .pre .heightK .low) (c .before .pre .heightL .low)
+returns c =
+    let start = c .before .before in
+    transfer-none _ _ _ _ _ (start .pre .heightK .low) (start .pre .heightL .low) (is-zero (upwind (c .before)) (c .if1 .taken))
+
+returns-2 : tie.Need-returns-2
+returns-2 c =
+    let start = c .before .before in
+    value (quot (top (c .before)) (below (c .before))) ∙ transfer-quot _ _ _ _ _ (start .pre .heightK .low) (start .pre .heightL .low)
 
 upwind-requires : tie.Need-upwind-requires
 upwind-requires c κs = tt
 
 cast-top : tie.Need-cast-top
-cast-top c = fits (h c)
+cast-top c = fits (h (c .before))
 
 cast-top-2 : tie.Need-cast-top-2
-cast-top-2 c = fits (u c)
+cast-top-2 c = fits (u (c .before))
 
 mul-top : tie.Need-mul-top
-mul-top c = fits (hu c)
+mul-top c = fits (hu (c .before))
 
 cast-top-3 : tie.Need-cast-top-3
-cast-top-3 c = fits (dt c)
+cast-top-3 c = fits (dt (c .before))
 
 mul-top-2 : tie.Need-mul-top-2
-mul-top-2 c = fits (top c)
+mul-top-2 c = fits (top (c .before))
 
 cast-below : tie.Need-cast-below
-cast-below c = fits (d c)
+cast-below c = fits (d (c .before))
 
 mul-below : tie.Need-mul-below
-mul-below c = fits (below c)
+mul-below c = fits (below (c .before))
 
 div-result : tie.Need-div-result
-div-result c = divides (top c) (below c) (omega (arith, c .before .pre .side .low))
+div-result c = divides (top (c .before)) (below (c .before)) (omega (arith, c .before .before .pre .side .low))
 
 pub transfer-spec : {M : Type 1} → statement M
 transfer-spec =
     tie.close
     (tie.spec
     upwind-requires
+    returns
     cast-top
     cast-top-2
     mul-top
@@ -81,4 +93,4 @@ transfer-spec =
     cast-below
     mul-below
     div-result
-    returns)
+    returns-2)

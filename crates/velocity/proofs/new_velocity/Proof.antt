@@ -7,10 +7,11 @@ use lib.IntN.{natAbs, _+ℤ_}
 use mir.Syntax.{w32, w64}
 use Rattle.rules.specs.Site.{isZero}
 use Rattle.rules.specs.Step.{newVelocity}
-use Rattle.laws.specs.Exact.{Node, fits, value, divides, is-zero, not-zero, int, result, add, sub, quot, cast}
+use Rattle.laws.specs.Exact.{Node, fits, value, is-zero, not-zero, int, result, add, sub, cast}
 use Rattle.face.proofs.Bounds.{height-within}
 use Rattle.momentum.proofs.Bounds.{carried-within}
 use Rattle.velocity.proofs.Bounds.{slope-within}
+use Rattle.velocity.proofs.Quotients.{may-divide, divided}
 use Rattle.velocity.proofs.new_velocity.Statement.{statement}
 use Rattle.velocity.proofs.new_velocity.Tie as tie
 
@@ -20,25 +21,10 @@ start c = c .before .before
 abbrev test : tie.After-carried → tie.After-struct-told2
 test c = c .before .before
 
--- the operations, in the code's order
+-- the sum, and what a dry face returns
 abbrev h : tie.After-struct-told2 → Node w32
 h c = let r = start c .pre .face in add (int (height-within (r .newK)) tt) (int (height-within (r .newL)) tt) tt
 
-abbrev all : tie.After-carried → Node w64
-all c = result (c .carried .ensures) (carried-within (start (test c) .pre .face)) tt
-
-abbrev sum : tie.After-carried → Node w64
-sum c = cast (h (test c)) tt
-
-abbrev shared : tie.After-carried → Node w64
-shared c = quot (all c) (sum c)
-
-abbrev new : tie.After-slope → Node w64
-new c =
-    let r = start (test (c .before)) .pre in
-    sub (shared (c .before)) (result (c .slope .ensures) (slope-within (r .face) (r .time) (r .side)) tt) tt
-
--- what it returns; then that each operation fits
 returns : tie.Need-returns
 unfolding newVelocity
 returns c =
@@ -46,6 +32,22 @@ returns c =
     let e : isZero (f .newK +ℤ f .newL) ≡ true = eq-eqb _ 0 (ap natAbs (is-zero (h (c .before)) (c .if1 .taken))) in
     rw e
 
+-- the other operations, in the code's order
+abbrev all : tie.After-carried → Node w64
+all c = result (c .carried .ensures) (carried-within (start (test c) .pre .face)) tt
+
+abbrev sum : tie.After-carried → Node w64
+sum c = cast (h (test c)) tt
+
+abbrev shared : tie.After-quotient → Node w64
+shared c = divided (all (c .before)) (sum (c .before)) (c .quotient .ensures)
+
+abbrev new : tie.After-slope → Node w64
+new c =
+    let r = start (test (c .before .before)) .pre in
+    sub (shared (c .before)) (result (c .slope .ensures) (slope-within (r .face) (r .time) (r .side)) tt) tt
+
+-- that each operation fits, and what a wet face returns
 wet : (c : tie.After-carried) → natAbs (h (test c) .z) ≡ 0 → ⊥
 wet c = not-zero (h (test c)) (c .before .if1 .left)
 
@@ -55,14 +57,14 @@ add-h c = fits (h c)
 carried-requires : tie.Need-carried-requires
 carried-requires c κs = start (c .before) .pre .face
 
-cast-result : tie.Need-cast-result
-cast-result c = fits (sum c)
+cast-quotient : tie.Need-cast-quotient
+cast-quotient c = fits (sum c)
 
-div-result : tie.Need-div-result
-div-result c = let w = wet c in divides (all c) (sum c) (omega arith)
+quotient-requires : tie.Need-quotient-requires
+quotient-requires c κs = let w = wet c in may-divide (all c) (sum c) (omega arith)
 
 slope-requires : tie.Need-slope-requires
-slope-requires c κs = start (test c) .pre
+slope-requires c κs = start (test (c .before)) .pre
 
 sub-result : tie.Need-sub-result
 sub-result c = fits (new c)
@@ -70,8 +72,8 @@ sub-result c = fits (new c)
 returns-2 : tie.Need-returns-2
 unfolding newVelocity
 returns-2 c =
-    let f = start (test (c .before)) .args .f in
-    let e : isZero (f .newK +ℤ f .newL) ≡ false = ne-eqb _ 0 (wet (c .before)) in
+    let f = start (test (c .before .before)) .args .f in
+    let e : isZero (f .newK +ℤ f .newL) ≡ false = ne-eqb _ 0 (wet (c .before .before)) in
     rw e (value (new c))
 
 pub new-velocity-spec : {M : Type 1} → statement M
@@ -80,8 +82,8 @@ new-velocity-spec =
     (tie.spec
     add-h
     carried-requires
-    cast-result
-    div-result
+    cast-quotient
+    quotient-requires
     slope-requires
     sub-result
     returns

@@ -1,9 +1,10 @@
--- `slope`: the rise fits in 32 bits and the products in 64, the divisor is above 0, and `/` cuts towards zero as S does.
+-- `slope`: the rise fits in 32 bits and the products in 64, and the divisor is above 0.
 use native.Mathlib.Omega.{arith}
 use mir.Syntax.{w32, w64}
 use Rattle.rules.specs.Step.{rise as Step·rise, slope}
-use Rattle.laws.specs.Exact.{Node, fits, value, divides, int, nat, lit, add, sub, mul, quot, cast}
+use Rattle.laws.specs.Exact.{Node, fits, value, int, nat, lit, add, sub, mul, cast}
 use Rattle.face.proofs.Bounds.{height-within}
+use Rattle.velocity.proofs.Quotients.{may-divide, divided}
 use Rattle.velocity.proofs.slope.Statement.{statement}
 use Rattle.velocity.proofs.slope.Tie as tie
 
@@ -32,7 +33,7 @@ below c = mul (lit 1000 tt) (nat (start c .pre .side .high) tt) tt
 -- what it returns; then that each operation fits
 returns : tie.Need-returns
 unfolding slope Step·rise
-returns c = value (quot (top c) (below c))
+returns c = value (divided (top (c .before)) (below (c .before)) (c .quotient .ensures))
 
 add-rise : tie.Need-add-rise
 add-rise c = fits (level-l c)
@@ -61,8 +62,8 @@ cast-below c = fits (nat (start c .pre .side .high) tt)
 mul-below : tie.Need-mul-below
 mul-below c = fits (below c)
 
-div-result : tie.Need-div-result
-div-result c = divides (top c) (below c) (omega (arith, start c .pre .side .low))
+quotient-requires : tie.Need-quotient-requires
+quotient-requires c κs = may-divide (top c) (below c) (omega (arith, start c .pre .side .low))
 
 pub slope-spec : {M : Type 1} → statement M
 slope-spec =
@@ -77,5 +78,5 @@ slope-spec =
     mul-pull-2
     cast-below
     mul-below
-    div-result
+    quotient-requires
     returns)
