@@ -1,8 +1,10 @@
 -- What a sound site gives a step that works in a draft, and each answer of the public step.
 use mathlib.Core.Path.{_≡_, _∙_, sym, ap}
+use mathlib.Core.Bool.{Bool, true, false, cond}
 use mathlib.Core.List.{List, _++_}
-use Prim.Native.Nat.{ℕ, _≤_}
+use Prim.Native.Nat.{ℕ, _≤_, _<_}
 use native.Mathlib.Omega.{arith}
+use lib.Dec.{T, leb, leb→le}
 use lib.IntN.{ℤ}
 use lib.ListN.{length, take, drop}
 use lib.Seq.{length-take-le, take-at}
@@ -22,6 +24,14 @@ use Rattle.step.specs.Draft.{Drafting}
 -- no state is longer than the longest
 pub room-few : (c : Card) (g s n : List ℤ) → SoundWith c g s n → length n ≤ 49408
 room-few c g s n w = omega (arith, w .long, sound-facts c g s (w .sound) .card .state-high)
+
+-- where a state is longer than the room, the next larger room is larger
+pub room-grows : (room : ℕ) {long : ℕ} → room < long → long ≤ 49408 → room < cond (leb room 800) 3136 49408
+room-grows room {long} h most = pick (leb room 800) (leb→le room 800)
+  where
+    pick : (b : Bool) → (T b → room ≤ 800) → room < cond b 3136 49408
+    pick true f = let few = f tt in omega arith
+    pick false f = omega arith
 
 module _ {c : Card} {g s t d n : List ℤ} (drafting : Drafting c g s t d n) where
   room-long : length n ≡ stateLength c

@@ -1,7 +1,10 @@
 // One step of water over a site, for any card, any lists and any words in them.
+ghost use mathlib.Core.Path.{_≡_};
+ghost use mathlib.Core.Bool.{cond};
+ghost use lib.Dec.{leb};
 ghost use Rattle.rules.specs.Contracts.{StepContract};
 ghost use Rattle.laws.specs.Facts.{SoundWith};
-ghost use Rattle.step.specs.Draft.{Drafting, Small};
+ghost use Rattle.step.specs.Draft.{Drafting, Held};
 use rules::Card;
 
 // One step of a sound site, worked out in the draft, so that a refused step leaves the next state as it was lent.
@@ -22,9 +25,19 @@ fn step_by_draft(
     number
 }
 
+// A step on the shortest lists, which hold any site of at most 16×16 cells.
+fn smallest_step(card: Card, ground: &[i32], state: &[i32], next: &mut [i32]) -> u32
+    requires { ⌜ Held 800 card (now ground) (now state) (now next) ⌝ }
+    ensures { λ r. ⌜ StepContract card (now (ground .entry)) (now (state .entry)) (now (next .entry)) r (now (next .exit)) ⌝ }
+{
+    let mut tide = lists::shortest();
+    let mut draft = lists::shortest();
+    step_by_draft(card, ground, state, &mut tide, &mut draft, next)
+}
+
 // A step on short lists, which hold any site of at most 32×32 cells.
 fn small_step(card: Card, ground: &[i32], state: &[i32], next: &mut [i32]) -> u32
-    requires { ⌜ Small card (now ground) (now state) (now next) ⌝ }
+    requires { ⌜ Held 3136 card (now ground) (now state) (now next) ⌝ }
     ensures { λ r. ⌜ StepContract card (now (ground .entry)) (now (state .entry)) (now (next .entry)) r (now (next .exit)) ⌝ }
 {
     let mut tide = lists::short();
@@ -34,7 +47,7 @@ fn small_step(card: Card, ground: &[i32], state: &[i32], next: &mut [i32]) -> u3
 
 // A step on lists that hold any site.
 fn large_step(card: Card, ground: &[i32], state: &[i32], next: &mut [i32]) -> u32
-    requires { ⌜ SoundWith card (now ground) (now state) (now next) ⌝ }
+    requires { ⌜ Held 49408 card (now ground) (now state) (now next) ⌝ }
     ensures { λ r. ⌜ StepContract card (now (ground .entry)) (now (state .entry)) (now (next .entry)) r (now (next .exit)) ⌝ }
 {
     let mut tide = lists::longest();
@@ -42,14 +55,27 @@ fn large_step(card: Card, ground: &[i32], state: &[i32], next: &mut [i32]) -> u3
     step_by_draft(card, ground, state, &mut tide, &mut draft, next)
 }
 
-// A step on lists that have room for so many words; where the state has more, it calls itself for the longest lists. The compiler keeps a function that calls
-// itself, and the lists of those that it calls, out of its caller's stack frame: so a refused step takes no list's stack, and a small one no long list's.
+// The next larger room.
+fn more_room(room: usize) -> usize
+    ensures { λ r. ⌜ r ≡ cond (leb room 800) 3136 49408 ⌝ }
+{
+    if room <= 800 {
+        return 3136;
+    }
+    49408
+}
+
+// A step on lists that have room for so many words; where the state has more, it calls itself for the next larger lists. The compiler keeps a function that
+// calls itself, and the lists of those that it calls, out of its caller's stack frame: so a refused step takes no list's stack, and a small one no long list's.
 fn step_within(card: Card, ground: &[i32], state: &[i32], next: &mut [i32], room: usize) -> u32
     requires { ⌜ SoundWith card (now ground) (now state) (now next) ⌝ }
     ensures { λ r. ⌜ StepContract card (now (ground .entry)) (now (state .entry)) (now (next .entry)) r (now (next .exit)) ⌝ }
 {
     if next.len() > room {
-        return step_within(card, ground, state, next, 49408);
+        return step_within(card, ground, state, next, more_room(room));
+    }
+    if room <= 800 {
+        return smallest_step(card, ground, state, next);
     }
     if room <= 3136 {
         return small_step(card, ground, state, next);
@@ -65,5 +91,5 @@ pub fn step(card: Card, ground: &[i32], state: &[i32], next: &mut [i32]) -> u32
     if refusal != 0 {
         return refusal;
     }
-    step_within(card, ground, state, next, 3136)
+    step_within(card, ground, state, next, 800)
 }
