@@ -4,10 +4,9 @@ use Prim.Native.Nat.{ℕ, _+_, zero-le}
 use mathlib.Core.Path.{_≡_, _∙_, refl, sym}
 use mathlib.Core.Bool.{Bool, true, not}
 use mathlib.Core.List.{List}
-use native.Mathlib.Nat.{zero-mul, mul-zero}
 use borrow.Author.Tests.{le-leb}
 use lib.Dec.{T}
-use lib.IntN.{ℤ, pos, negsuc, _+ℤ_, _-ℤ_, _*ℤ_}
+use lib.IntN.{ℤ, pos, negsuc, _+ℤ_, _-ℤ_, zero-*ℤ, *ℤ-zero}
 use lib.Signed.{leZ}
 use Rattle.rules.specs.declared.Card.{Card}
 use Rattle.rules.specs.declared.Face.{Face}
@@ -36,14 +35,6 @@ pub record Still (f : Face) : Type 0 where
   pub belowK : f .belowK ≡ pos 0
   pub belowL : f .belowL ≡ pos 0
 
-no-factor : (z : ℤ) → z *ℤ pos 0 ≡ pos 0
-no-factor (pos n) = rw mul-zero
-no-factor (negsuc n) = rw mul-zero
-
-nothing-of : (z : ℤ) → pos 0 *ℤ z ≡ pos 0
-nothing-of (pos n) = rw zero-mul
-nothing-of (negsuc n) = rw zero-mul
-
 all-of : (x y : ℤ) → T (leZ (pos 0) x) → T (leZ (pos 0) y) → leZ (pos 0) (x +ℤ y -ℤ pos 0) ≡ true
 all-of (pos m) (pos n) p q = le-leb 0 (m + n + 0) zero-le
 all-of (pos m) (negsuc n) p q = absurd q
@@ -52,7 +43,7 @@ all-of (negsuc m) y p q = absurd p
 module _ {f : Face} (s : Still f) where
   pub still-carried : carried f ≡ pos 0
   unfolding carried brought outAhead outBehind outAbove outBelow positive
-  still-carried = rw (s .u, s .own, s .ahead, s .behind, s .aboveK, s .aboveL, s .belowK, s .belowL, no-factor, nothing-of (f .uAhead), nothing-of (f .uBehind), nothing-of (f .uAbove), nothing-of (f .uBelow))
+  still-carried = rw (s .u, s .own, s .ahead, s .behind, s .aboveK, s .aboveL, s .belowK, s .belowL, *ℤ-zero, zero-*ℤ (f .uAhead), zero-*ℤ (f .uBehind), zero-*ℤ (f .uAbove), zero-*ℤ (f .uBelow))
 
   -- what stays is all that there is
   share-is : T (leZ (pos 0) (f .oldK)) → T (leZ (pos 0) (f .oldL)) → leZ (pos 0) (ownShare f) ≡ true

@@ -6,7 +6,7 @@ ghost use Rattle.rules.specs.Site.{speedFits};
 ghost use Rattle.rules.specs.Step as step;
 ghost use Rattle.velocity.specs.Fits.{InQuotient, InVelocity};
 
-// The quotient towards zero. On a site at rest most numbers to be divided are 0, and a test costs less than a division.
+// The quotient towards zero. Most faces of a site carry nothing, and a test costs less than a division.
 fn quotient(a: i64, b: i64) -> i64
     requires { ⌜ InQuotient a b ⌝ }
     ensures { λ r. ⌜ r ≡ quotZ a b ⌝ }
@@ -17,6 +17,7 @@ fn quotient(a: i64, b: i64) -> i64
     a / b
 }
 
+// Where both new surfaces stand level there is nothing to multiply and nothing to divide.
 fn slope(f: Face, dt: u32, d: u32) -> i64
     requires { ⌜ InVelocity f dt d ⌝ }
     ensures { λ r. ⌜ r ≡ step.slope dt d f ⌝ }
@@ -26,9 +27,12 @@ fn slope(f: Face, dt: u32, d: u32) -> i64
     let hl = f.newL;
     let zl = f.groundL;
     let rise = (hl + zl) - (hk + zk);
+    if rise == 0 {
+        return 0;
+    }
     let pull = 9806650 * (dt as i64) * (rise as i64);
     let below = 1000 * (d as i64);
-    quotient(pull, below)
+    pull / below
 }
 
 // The new velocity of an inner face.

@@ -1,10 +1,10 @@
--- `slope`: the rise fits in 32 bits and the products in 64, and the divisor is above 0.
+-- `slope`: the rise fits in 32 bits and the products in 64, the divisor is above 0, and `/` cuts towards zero as S does; a level surface has no slope.
 use native.Mathlib.Omega.{arith}
+use native.Mathlib.Nat.{mul-zero, zero-div}
 use mir.Syntax.{w32, w64}
 use Rattle.rules.specs.Step.{rise as Step·rise, slope}
-use Rattle.laws.specs.Exact.{Node, fits, value, int, nat, lit, add, sub, mul, cast}
+use Rattle.laws.specs.Exact.{Node, fits, value, divides, is-zero, int, nat, lit, add, sub, mul, quot, cast}
 use Rattle.face.proofs.Bounds.{height-within}
-use Rattle.velocity.proofs.Quotients.{may-divide, divided}
 use Rattle.velocity.proofs.slope.Statement.{statement}
 use Rattle.velocity.proofs.slope.Tie as tie
 
@@ -33,7 +33,11 @@ below c = mul (lit 1000 tt) (nat (start c .pre .side .high) tt) tt
 -- what it returns; then that each operation fits
 returns : tie.Need-returns
 unfolding slope Step·rise
-returns c = value (divided (top (c .before)) (below (c .before)) (c .quotient .ensures))
+returns c = rw (is-zero (rise (c .before)) (c .if1 .taken), mul-zero, zero-div)
+
+returns-2 : tie.Need-returns-2
+unfolding slope Step·rise
+returns-2 c = value (quot (top (c .before)) (below (c .before)))
 
 add-rise : tie.Need-add-rise
 add-rise c = fits (level-l c)
@@ -45,25 +49,25 @@ sub-rise : tie.Need-sub-rise
 sub-rise c = fits (rise c)
 
 cast-pull : tie.Need-cast-pull
-cast-pull c = fits (nat (start c .pre .time .high) tt)
+cast-pull c = fits (nat (start (c .before) .pre .time .high) tt)
 
 mul-pull : tie.Need-mul-pull
-mul-pull c = fits (gravity c)
+mul-pull c = fits (gravity (c .before))
 
 cast-pull-2 : tie.Need-cast-pull-2
-cast-pull-2 c = fits (cast (rise c) tt)
+cast-pull-2 c = fits (cast (rise (c .before)) tt)
 
 mul-pull-2 : tie.Need-mul-pull-2
-mul-pull-2 c = fits (top c)
+mul-pull-2 c = fits (top (c .before))
 
 cast-below : tie.Need-cast-below
-cast-below c = fits (nat (start c .pre .side .high) tt)
+cast-below c = fits (nat (start (c .before) .pre .side .high) tt)
 
 mul-below : tie.Need-mul-below
-mul-below c = fits (below c)
+mul-below c = fits (below (c .before))
 
-quotient-requires : tie.Need-quotient-requires
-quotient-requires c κs = may-divide (top c) (below c) (omega (arith, start c .pre .side .low))
+div-result : tie.Need-div-result
+div-result c = divides (top (c .before)) (below (c .before)) (omega (arith, start (c .before) .pre .side .low))
 
 pub slope-spec : {M : Type 1} → statement M
 slope-spec =
@@ -72,11 +76,12 @@ slope-spec =
     add-rise
     add-rise-2
     sub-rise
+    returns
     cast-pull
     mul-pull
     cast-pull-2
     mul-pull-2
     cast-below
     mul-below
-    quotient-requires
-    returns)
+    div-result
+    returns-2)
