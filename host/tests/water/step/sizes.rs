@@ -1,4 +1,4 @@
-//! The step on fixed sizes: the largest site, and both sides of the size up to which the step works in short lists of its own.
+//! The step on fixed sizes: the largest site, and both sides of each size up to which the step works in shorter lists of its own.
 
 use crate::library;
 use crate::rng::Rng;
@@ -31,10 +31,11 @@ fn the_largest() {
     });
 }
 
-/// The lists are short up to 3,136 words of state. A step that is refused by its very last velocity has filled them all by then.
+/// The lists are shortest up to 800 words of state, and short up to 3,136; no site has 801 or 802. A step that is refused by its very
+/// last velocity has filled them all by then.
 #[test]
 fn short_lists_and_long_ones() {
-    for (columns, rows, words) in [(32, 32, 3_136), (17, 60, 3_137)] {
+    for (columns, rows, words) in [(16, 16, 800), (3, 80, 803), (32, 32, 3_136), (17, 60, 3_137)] {
         let rng = &mut Rng::new(words as u64);
         let mut site = moving(rng, columns, rows);
         assert_eq!(site.state.len(), words);
