@@ -19,9 +19,9 @@ use Rattle.transfers.specs.Known.{SoundState, Limited, TideRoom}
 use Rattle.transfers.proofs.Sites.{facts}
 use Rattle.heights.specs.Known.{MarkedState, Crossed}
 use Rattle.heights.proofs.Tides.{tide-heights}
-use Rattle.rest.specs.Marks.{Marked, MarksRoom}
+use Rattle.still.specs.Marks.{Marked, MarksRoom}
 use Rattle.around.specs.Faces.{Flowing}
-use Rattle.advance.specs.Advance.{StepRoom, MarkedRoom, NextRoom, Advanced}
+use Rattle.advance.specs.Advance.{StepRoom, MarkedRoom, LimitedRoom, NextRoom, Advanced}
 
 module _ {c : Card} {g s t n : List ℤ} (room : StepRoom c g s t n) where
   pub sound : SoundState c s
@@ -43,17 +43,24 @@ module _ {c : Card} {g s t n : List ℤ} {marks : List Bool} (marked : MarkedRoo
   unfolding stepNumber stepNumberBy number answer
   limit-broken b = let l : limitKept c (readState c s) ≡ false = sym looked ∙ not-true kept b in record { number = rw l; state = λ e. absurd (suc-ne-zero 3 e) }
 
-  pub limited : not kept ≡ false → Limited c s
-  limited b = record { sound = sound (marked .room); limit = sym looked ∙ not-false kept b }
+  pub limited : not kept ≡ false → LimitedRoom c g s marks t n
+  limited b =
+      let r = marked .room in
+      record { sound = r .sound; marked = marked .marked; limit = sym looked ∙ not-false kept b; tide = r .tide; next = r .next }
 
-  pub tide-room : not kept ≡ false → TideRoom c s marks t
-  tide-room b = record { limited = limited b; marked = marked .marked; long = marked .room .tide }
+-- what crosses the faces, in a tide
+module _ {c : Card} {g s t n : List ℤ} {marks : List Bool} (room : LimitedRoom c g s marks t n) where
+  within : Limited c s
+  within = record { sound = record { ground = g; site = room .sound }; limit = room .limit }
 
-  pub crossed : not kept ≡ false → {t′ : List ℤ} → length t′ ≡ length t → drop (c .rows * c .columns) t′ ≡ crossings c (readState c s) → Crossed c s t′
-  crossed b long is = record { limited = limited b; long = long ∙ marked .room .tide; crossed = is }
+  pub tide-room : TideRoom c s marks t
+  tide-room = record { limited = within; marked = room .marked; long = room .tide }
+
+  pub crossed : {t′ : List ℤ} → length t′ ≡ length t → drop (c .rows * c .columns) t′ ≡ crossings c (readState c s) → Crossed c s t′
+  crossed long is = record { limited = within; long = long ∙ room .tide; crossed = is }
 
 -- the new heights, in a tide
-module _ {c : Card} {s t : List ℤ} (limited : Limited c s) (holds : Holds c (tide c (readState c s)) t) {fit : Bool} (looked : fit ≡ tideFits c t) where
+module _ {c : Card} {t : List ℤ} (s : List ℤ) (limit : limitKept c (readState c s) ≡ true) (holds : Holds c (tide c (readState c s)) t) {fit : Bool} (looked : fit ≡ tideFits c t) where
   fit-is : fit ≡ newHeightsFit c (readState c s)
   fit-is = looked ∙ tide-heights s holds
 
@@ -62,10 +69,11 @@ module _ {c : Card} {s t : List ℤ} (limited : Limited c s) (holds : Holds c (t
   unfolding stepNumber stepNumberBy number answer
   height-broken b =
       let h : newHeightsFit c (readState c s) ≡ false = sym fit-is ∙ not-true fit b in
-      record { number = rw (limited .limit, h); state = λ e. absurd (suc-ne-zero 4 e) }
+      record { number = rw (limit, h); state = λ e. absurd (suc-ne-zero 4 e) }
 
-  pub next-room : {marks : List Bool} → Marked c s marks → not fit ≡ false → {g : List ℤ} → Sound c g s → {n : List ℤ} → length n ≡ stateLength c → NextRoom c g s t marks n
-  next-room m b sound long = record { marked = m; flowing = record { sound = sound; limit = limited .limit; heights = sym fit-is ∙ not-false fit b; tide = holds }; long = long }
+  pub next-room : not fit ≡ false → {g : List ℤ} → Sound c g s → {marks : List Bool} → Marked c s marks → {n : List ℤ} → length n ≡ stateLength c → NextRoom c g s t marks n
+  next-room b sound m long =
+      record { flowing = record { sound = sound; limit = limit; heights = sym fit-is ∙ not-false fit b; tide = holds }; marked = m; long = long }
 
 -- own shares and new velocities
 module _ {c : Card} {g s t : List ℤ} (flowing : Flowing c g s t) {shared : Bool} (looked : shared ≡ sharesFit c (readGround c g) (readState c s)) where

@@ -1,8 +1,8 @@
-// One step of a sound site, with a tide to work in. The rows at rest are marked first, and passed over by all that follows.
+// One step of a sound site, with a tide to work in. The still rows are marked first, and passed over by all that follows.
 ghost use Rattle.rules.specs.Site.{readGround, readState};
 ghost use Rattle.rules.specs.Step.{newVelocity, newVelocitiesFit, nextState};
 ghost use Rattle.laws.specs.Tested.{Filled};
-ghost use Rattle.advance.specs.Advance.{StepRoom, MarkedRoom, NextRoom, Advanced};
+ghost use Rattle.advance.specs.Advance.{StepRoom, MarkedRoom, LimitedRoom, NextRoom, Advanced};
 use rules::Card;
 
 // Fills the next state: its heights from the tide, and the velocities behind them. Where a velocity does not fit, nothing is promised of its words.
@@ -45,7 +45,27 @@ fn move_on(
     0
 }
 
-// The whole step, once the rows at rest are marked.
+// The step of a site that keeps the step limit: 5, 6 or 7, or 0 and the next state.
+fn flow(
+    card: Card,
+    ground: &[i32],
+    state: &[i32],
+    marks: &[bool],
+    tide: &mut [i32],
+    next: &mut [i32],
+) -> u32
+    requires { ⌜ LimitedRoom card (now ground) (now state) (now marks) (now tide) (now next) ⌝ }
+    ensures { λ r. ⌜ Advanced card (now (ground .entry)) (now (state .entry)) r (now (next .exit)) ⌝ }
+{
+    transfers::transfers(card, state, marks, tide);
+    heights::tide::heights(card, state, tide);
+    if !heights::tide::heights_fit(card, tide) {
+        return 5;
+    }
+    move_on(card, ground, state, tide, marks, next)
+}
+
+// The whole step, once the still rows are marked.
 fn advance_marked(
     card: Card,
     ground: &[i32],
@@ -60,12 +80,7 @@ fn advance_marked(
     if !heights::look::limit_kept(card, state, marks) {
         return 4;
     }
-    transfers::transfers(card, state, marks, tide);
-    heights::tide::heights(card, state, tide);
-    if !heights::tide::heights_fit(card, tide) {
-        return 5;
-    }
-    move_on(card, ground, state, tide, marks, next)
+    flow(card, ground, state, marks, tide, next)
 }
 
 // The step's number. Where it is 0, `next` is the next state; otherwise nothing is promised of its words.
@@ -73,7 +88,7 @@ pub fn advance(card: Card, ground: &[i32], state: &[i32], tide: &mut [i32], next
     requires { ⌜ StepRoom card (now ground) (now state) (now tide) (now next) ⌝ }
     ensures { λ r. ⌜ Advanced card (now (ground .entry)) (now (state .entry)) r (now (next .exit)) ⌝ }
 {
-    let mut marks = rest::no_marks();
-    rest::mark(card, state, &mut marks);
+    let mut marks = still::no_marks();
+    still::mark(card, state, &mut marks);
     advance_marked(card, ground, state, &marks, tide, next)
 }

@@ -13,6 +13,7 @@ use Rattle.rules.specs.Step.{eastFace, northFace}
 use Rattle.laws.specs.Lines.{no-end}
 use Rattle.layout.specs.Ways.{wide, high, isWall, back, speeds, transfers, forth}
 use Rattle.layout.specs.Places.{FaceIn}
+use Rattle.layout.proofs.Pointing.{Cell}
 use Rattle.around.specs.Around.{speedAbove, speedBelow, gatheredFace}
 use Rattle.around.specs.Faces.{Flowing, AtFace, innerFace}
 
@@ -25,23 +26,6 @@ pub forth-back : (one : Bool) {n m : ℕ} → n < back one m → forth one n < m
 unfolding forth back
 forth-back true h = omega arith
 forth-back false h = h
-
--- ---- The faces of a cell: the near one and the far one
-
-pub record Cell (c : Card) (i j : ℕ) : Type 0 where
-  pub column : i < c .columns
-  pub row : j < c .rows
-
-module _ {c : Card} {i j : ℕ} where
-  pub near-in : (east : Bool) → Cell c i j → FaceIn c east i j
-  unfolding wide high
-  near-in true k = record { column = omega arith; row = omega arith }
-  near-in false k = record { column = omega arith; row = omega arith }
-
-  pub far-in : (east : Bool) → Cell c i j → FaceIn c east (forth east i) (forth (not east) j)
-  unfolding wide high forth
-  far-in true k = record { column = omega arith; row = omega arith }
-  far-in false k = record { column = omega arith; row = omega arith }
 
 -- ---- The cells of an inner face
 

@@ -19,7 +19,7 @@ use Rattle.transfers.specs.Tide.{tide}
 use Rattle.layout.specs.Ways.{wide, high, speeds, transfers}
 use Rattle.layout.specs.Places.{FaceIn, FacePlace}
 use Rattle.around.specs.Faces.{Flowing}
-use Rattle.around.proofs.Around.{Cell}
+use Rattle.layout.proofs.Pointing.{Cell}
 
 pub ground-read : (c : Card) (g : List ℤ) (i j : ℕ) → getD g (0 + (j * c .columns + i)) (pos 0) ≡ readGround c g i j
 unfolding readGround

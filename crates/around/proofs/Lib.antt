@@ -3,4 +3,4 @@ pub mod Around
 pub mod Flows
 pub mod Places
 pub mod Ranges
-pub mod Resting
+pub mod Still

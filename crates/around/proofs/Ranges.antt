@@ -23,7 +23,8 @@ use Rattle.layout.specs.Places.{FaceIn}
 use Rattle.around.specs.Around.{speedAbove, speedBelow, gatheredFace}
 use Rattle.around.specs.Faces.{Flowing, AtFace, innerFace}
 use Rattle.around.specs.Still.{stillFace, StillPlace}
-use Rattle.around.proofs.Around.{Cell, near-in, far-in, cell-k, cell-l, gathered-is}
+use Rattle.layout.proofs.Pointing.{Cell, near-in, far-in}
+use Rattle.around.proofs.Around.{cell-k, cell-l, gathered-is}
 use Rattle.around.proofs.Flows.{sound-of, tide-height}
 
 -- beside a face stands another one, or a wall
@@ -83,7 +84,7 @@ module _ {c : Card} {g s t : List ℤ} (f : Flowing c g s t) where
           uBelow = before-within _ (λ n. speed _ _) _;
         }
 
--- those of a face at rest, and the places of its cells
+-- those of a still face, and the places of its cells
 module _ {c : Card} {g s t : List ℤ} {east : Bool} {i j : ℕ} (a : AtFace c g s t east i j) where
   pub still-place : StillPlace c g t east i j
   still-place =
@@ -96,7 +97,7 @@ module _ {c : Card} {g s t : List ℤ} {east : Bool} {i j : ℕ} (a : AtFace c g
       let f = a .flowing in
       let none : Height (pos 0) = record { low = tt; high = tt } in
       let nothing : Transfer (pos 0) = record { size = zero-le } in
-      let calm : Speed (pos 0) = record { size = zero-le } in
+      let rest : Speed (pos 0) = record { size = zero-le } in
       record {
         oldK = none;
         oldL = none;
@@ -111,11 +112,11 @@ module _ {c : Card} {g s t : List ℤ} {east : Bool} {i j : ℕ} (a : AtFace c g
         aboveL = nothing;
         belowK = nothing;
         belowL = nothing;
-        u = calm;
-        uAhead = calm;
-        uBehind = calm;
-        uAbove = calm;
-        uBelow = calm;
+        u = rest;
+        uAhead = rest;
+        uBehind = rest;
+        uAbove = rest;
+        uBelow = rest;
       }
 
 pub face-fits : {c : Card} {g s t : List ℤ} {east : Bool} {i j : ℕ} → AtFace c g s t east i j → FaceFits (innerFace c (readGround c g) (readState c s) east i j)

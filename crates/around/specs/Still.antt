@@ -1,4 +1,4 @@
--- A face at rest: its new velocity asks for the new heights and the ground of its cells, and for nothing else.
+-- A still face: its new velocity asks for the new heights and the ground of its cells, and for nothing else.
 use Prim.Native.Nat.{ℕ, _<_}
 use mathlib.Core.Path.{_≡_}
 use mathlib.Core.Bool.{Bool, not}
@@ -12,7 +12,7 @@ use Rattle.rules.specs.Site.{cells, stateLength}
 use Rattle.laws.specs.Facts.{Ranges}
 use Rattle.layout.specs.Ways.{forth}
 
--- the face of which (i, j) is cell K, over this ground and these new heights, with 0 for all that moves
+-- the face of which (i, j) is cell K, over this ground and these new heights, with 0 for all that its new velocity does not ask for
 unfoldable pub stillFace : (ground height : Field) → Bool → ℕ → ℕ → Face
 stillFace g h east i j = record {
   oldK = pos 0;

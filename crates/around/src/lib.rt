@@ -1,4 +1,4 @@
-// What stands around each inner face: its eighteen numbers, gathered from ground, state and tide.
+// What stands around an inner face, gathered from ground, state and tide: eighteen numbers, or four where all is still.
 pub mod faces;
-pub mod still;
+pub mod levels;
 mod words;

@@ -1,5 +1,5 @@
--- A cell at rest keeps the step limit.
-use Prim.Native.Nat.{ℕ, _*_, _<_, zero-le}
+-- A still cell keeps the step limit.
+use Prim.Native.Nat.{ℕ, _*_, zero-le}
 use mathlib.Core.Path.{_≡_}
 use mathlib.Core.Bool.{true, false}
 use native.Mathlib.Nat.{zero-mul, mul-zero}
@@ -8,9 +8,10 @@ use Rattle.rules.specs.declared.Card.{Card}
 use Rattle.rules.specs.Site.{Water}
 use Rattle.rules.specs.Step.{withinLimit}
 use Rattle.layout.specs.Ways.{speeds, forth}
-use Rattle.rest.specs.Rest.{AtRest}
-use Rattle.rest.proofs.Resting.{near-rests, far-rests}
+use Rattle.layout.proofs.Pointing.{Cell}
+use Rattle.still.specs.Rows.{CellsStill}
+use Rattle.still.proofs.Rows.{near-still, far-still}
 
-pub still-within : {c : Card} {w : Water} {j : ℕ} → AtRest c w j → (i : ℕ) → i < c .columns → withinLimit c w i j ≡ true
+pub still-within : {c : Card} {w : Water} {j : ℕ} → CellsStill c w j → (i : ℕ) → Cell c i j → withinLimit c w i j ≡ true
 unfolding withinLimit speeds forth
-still-within {c} r i h = rw (near-rests r h true, far-rests r h true, near-rests r h false, far-rests r h false, zero-mul, zero-mul, mul-zero) (le-leb 0 (1000 * (c .dx * c .dy)) zero-le)
+still-within {c} r i h = rw (near-still r h true, far-still r h true, near-still r h false, far-still r h false, zero-mul, zero-mul, mul-zero) (le-leb 0 (1000 * (c .dx * c .dy)) zero-le)

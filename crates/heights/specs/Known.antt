@@ -7,7 +7,7 @@ use lib.IntN.{ℤ}
 use lib.ListN.{length, drop}
 use Rattle.rules.specs.declared.Card.{Card}
 use Rattle.rules.specs.Site.{readState, stateLength}
-use Rattle.rest.specs.Marks.{Marked}
+use Rattle.still.specs.Marks.{Marked}
 use Rattle.transfers.specs.Known.{SoundState, Limited}
 use Rattle.transfers.specs.Tide.{crossings}
 
@@ -17,7 +17,7 @@ pub record SoundCell (c : Card) (s : List ℤ) (i j : ℕ) : Type 0 where
   pub column : i < c .columns
   pub row : j < c .rows
 
--- the state of one, and the marks of its rows at rest
+-- the state of one, and the marks of its still rows
 pub record MarkedState (c : Card) (s : List ℤ) (marks : List Bool) : Type 0 where
   pub sound : SoundState c s
   pub marked : Marked c s marks

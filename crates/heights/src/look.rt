@@ -1,4 +1,4 @@
-// The look at the step limit: every cell, dry ones too, left at the first that breaks it. Cells at rest keep it, and are passed over row by row.
+// The look at the step limit: every cell, dry ones too, left at the first that breaks it. Still cells keep it, and are passed over row by row.
 ghost use mathlib.Core.Path.{_≡_};
 ghost use Rattle.rules.specs.Site.{readState};
 ghost use Rattle.rules.specs.Step.{withinLimit, limitKept};

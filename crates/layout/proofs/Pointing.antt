@@ -30,6 +30,27 @@ unfolding back forth
 back-forth true n h = let k : 0 < n = h refl in omega arith
 back-forth false n h = refl
 
+pub back-again : (one : Bool) (n : ℕ) → back one (forth one n) ≡ n
+unfolding back forth
+back-again true n = omega arith
+back-again false n = refl
+
+-- a cell, and its near and its far face
+pub record Cell (c : Card) (i j : ℕ) : Type 0 where
+  pub column : i < c .columns
+  pub row : j < c .rows
+
+module _ {c : Card} {i j : ℕ} where
+  pub near-in : (east : Bool) → Cell c i j → FaceIn c east i j
+  unfolding wide high
+  near-in true k = record { column = omega arith; row = omega arith }
+  near-in false k = record { column = omega arith; row = omega arith }
+
+  pub far-in : (east : Bool) → Cell c i j → FaceIn c east (forth east i) (forth (not east) j)
+  unfolding wide high forth
+  far-in true k = record { column = omega arith; row = omega arith }
+  far-in false k = record { column = omega arith; row = omega arith }
+
 -- cells K and L of an inner face
 pub record Beside (c : Card) (east : Bool) (i j : ℕ) : Type 0 where
   pub back-east : east ≡ true → 0 < i

@@ -13,7 +13,7 @@ use Rattle.laws.specs.Facts.{Sound}
 use Rattle.face.specs.Ranges.{InTransfer}
 use Rattle.layout.specs.Places.{FaceIn}
 use Rattle.layout.specs.Ways.{wide, high}
-use Rattle.rest.specs.Marks.{Marked}
+use Rattle.still.specs.Marks.{Marked}
 
 -- the state of a sound site, over some ground
 pub record SoundState (c : Card) (s : List ℤ) : Type 0 where

@@ -1,5 +1,5 @@
 // What crosses each face in one step: the part of the tide behind the heights. One division for each inner face that has a velocity and water behind it; no
-// face is looked at in a row at rest.
+// face is looked at in a still row.
 ghost use mathlib.Core.Path.{_≡_};
 ghost use Prim.Native.Nat.{_*_};
 ghost use lib.ListN.{drop};
@@ -47,9 +47,9 @@ fn over_faces(card: Card, east: bool, state: &[i32], marks: &[bool], part: &mut 
     let wide = ways::wide(card, east);
     let high = ways::high(card, east);
     for j in 0..high {
-        let rests = rest::both_rest(card, east, marks, j);
+        let still = still::both_still(card, east, marks, j);
         for i in 0..wide {
-            let crossed = if rests {
+            let crossed = if still {
                 0
             } else {
                 over_face(card, east, state, i, j)

@@ -1,3 +1,3 @@
 pub mod Speeds
 pub mod Velocities
-pub mod Resting
+pub mod Still

@@ -12,11 +12,11 @@ use Rattle.laws.specs.Lines.{walled-is}
 use Rattle.layout.specs.Ways.{wide, high, side, isWall, back, forth}
 use Rattle.layout.specs.Places.{FaceIn}
 use Rattle.layout.proofs.Pointing.{beside, back-forth}
-use Rattle.rest.specs.Rest.{AtRest, BothRest}
+use Rattle.still.specs.Rows.{CellsStill, BothStill}
 use Rattle.around.specs.Faces.{Flowing, AtFace, innerFace}
 use Rattle.around.specs.Still.{stillFace}
 use Rattle.around.proofs.Around.{inner-at}
-use Rattle.around.proofs.Resting.{still-velocity}
+use Rattle.around.proofs.Still.{still-velocity}
 use Rattle.velocities.specs.Velocities.{newSpeeds}
 
 pub new-is : (c : Card) (g s : List ℤ) (east : Bool) {i j : ℕ} → FaceIn c east i j
@@ -26,7 +26,7 @@ unfolding newSpeeds newEast newNorth innerFace wide high side isWall back
 new-is c g s true {i} {j} p = let h : i ≤ c .columns = omega arith in walled-is (c .columns) _ i h
 new-is c g s false {i} {j} p = let h : j ≤ c .rows = omega arith in walled-is (c .rows) _ j h
 
--- an inner face, by the place of its cell K: the new velocity is the rule's, and between two rows at rest it is that of the face at rest
+-- an inner face, by the place of its cell K: the new velocity is the rule's, and between two still rows it is that of the still face
 module _ {c : Card} {g s t : List ℤ} (flowing : Flowing c g s t) (east : Bool) {i j k l : ℕ} (face : FaceIn c east i j) (inner : isWall c east i j ≡ false)
     (column : k ≡ back east i) (row : l ≡ back (not east) j) where
   pub at-face : AtFace c g s t east k l
@@ -35,9 +35,9 @@ module _ {c : Card} {g s t : List ℤ} (flowing : Flowing c g s t) (east : Bool)
   pub inner-is : {d : ℕ} → d ≡ side c east → newVelocity (c .dt) d (innerFace c (readGround c g) (readState c s) east k l) ≡ newSpeeds c g s east i j
   inner-is e = rw (e, column, row) (sym (new-is c g s east face ∙ rw inner))
 
-  pub still-is : {d : ℕ} → d ≡ side c east → BothRest c (readState c s) east j
+  pub still-is : {d : ℕ} → d ≡ side c east → BothStill c (readState c s) east j
       → newVelocity (c .dt) d (stillFace (readGround c g) (readState c t .height) east k l) ≡ newSpeeds c g s east i j
   still-is {d} e both =
-      let rowK : AtRest c (readState c s) l = rw row (both .rowK) in
-      let rowL : AtRest c (readState c s) (forth (not east) l) = rw (row, back-forth (not east) j (beside c east i j face inner .back-north)) (both .rowL) in
+      let rowK : CellsStill c (readState c s) l = rw row (both .rowK) in
+      let rowL : CellsStill c (readState c s) (forth (not east) l) = rw (row, back-forth (not east) j (beside c east i j face inner .back-north)) (both .rowL) in
       still-velocity at-face rowK rowL (c .dt) d ∙ inner-is e

@@ -7,13 +7,13 @@ use lib.Signed.{leZ}
 use Rattle.rules.specs.declared.Card.{Card}
 use Rattle.rules.specs.Site.{readGround, readState}
 use Rattle.rules.specs.Step.{ownShare}
-use Rattle.rest.specs.Marks.{Marked}
+use Rattle.still.specs.Marks.{Marked}
 use Rattle.around.specs.Faces.{Flowing, innerFace}
 
 abbrev pub shareFits : Card → (ground state : List ℤ) → Bool → ℕ → ℕ → Bool
 shareFits c g s east i j = leZ (pos 0) (ownShare (innerFace c (readGround c g) (readState c s) east i j))
 
--- the tide of a state, and the marks of its rows at rest
+-- the tide of a state, and the marks of its still rows
 pub record MarkedFlow (c : Card) (g s t : List ℤ) (marks : List Bool) : Type 0 where
   pub flowing : Flowing c g s t
   pub marked : Marked c s marks

@@ -10,17 +10,17 @@ use Rattle.rules.specs.Grid.{Field, grid}
 use Rattle.rules.specs.Site.{readGround, readState}
 use Rattle.rules.specs.Step.{newVelocity, newEast, newNorth}
 use Rattle.layout.specs.Places.{FaceIn}
-use Rattle.rest.specs.Rest.{BothRest}
-use Rattle.rest.specs.Marks.{Marked}
+use Rattle.still.specs.Rows.{BothStill}
+use Rattle.still.specs.Marks.{Marked}
 use Rattle.around.specs.Faces.{Flowing}
 
--- a face (i, j): an inner one or a wall; and whether its row is known to be at rest
-pub record OnFace (c : Card) (g s t : List ℤ) (east : Bool) (i j : ℕ) (rests : Bool) : Type 0 where
+-- a face (i, j): an inner one or a wall; and whether its row is known to be still
+pub record OnFace (c : Card) (g s t : List ℤ) (east : Bool) (i j : ℕ) (still : Bool) : Type 0 where
   pub flowing : Flowing c g s t
   pub face : FaceIn c east i j
-  pub both : rests ≡ true → BothRest c (readState c s) east j
+  pub both : still ≡ true → BothStill c (readState c s) east j
 
--- room for so many velocities, and the marks of the rows at rest
+-- room for so many velocities, and the marks of the still rows
 pub record Room (c : Card) (g s t : List ℤ) (marks : List Bool) (n : ℕ) (part : List ℤ) : Type 0 where
   pub flowing : Flowing c g s t
   pub marked : Marked c s marks

@@ -1,7 +1,7 @@
 // The velocities of the next state, in the part of it that starts behind the heights: two passes, each left at the first velocity out of
-// range. At most two divisions for each inner face; none on the walls. In a row at rest four numbers are read for a face, else eighteen.
+// range. At most two divisions for each inner face; none on the walls. In a still row four numbers are read for a face, else eighteen.
 use around::faces;
-use around::still;
+use around::levels;
 use layout::ways;
 use rules::Card;
 ghost use mathlib.Core.Path.{_≡_};
@@ -13,7 +13,7 @@ ghost use Rattle.laws.specs.Tested.{Filled};
 ghost use Rattle.layout.specs.Ways as Ways;
 ghost use Rattle.velocities.specs.Velocities.{OnFace, Room, newSpeeds, nextVelocities};
 
-// The new velocity of a face, in a row that is known to be at rest or in any other.
+// The new velocity of a face, in a row that is known to be still or in any other.
 fn velocity(
     card: Card,
     east: bool,
@@ -22,9 +22,9 @@ fn velocity(
     tide: &[i32],
     i: usize,
     j: usize,
-    rests: bool,
+    still: bool,
 ) -> i64
-    requires { ⌜ OnFace card (now ground) (now state) (now tide) east i j rests ⌝ }
+    requires { ⌜ OnFace card (now ground) (now state) (now tide) east i j still ⌝ }
     ensures { λ r. ⌜ r ≡ newSpeeds card (now (ground .entry)) (now (state .entry)) east i j ⌝ }
 {
     if ways::is_wall(card, east, i, j) {
@@ -32,9 +32,9 @@ fn velocity(
     }
     let k = ways::back(east, i);
     let l = ways::back(!east, j);
-    if rests {
+    if still {
         return velocity::new_velocity(
-            still::face(card, east, ground, tide, k, l),
+            levels::still_face(card, east, ground, tide, k, l),
             card.dt,
             ways::side(card, east),
         );
@@ -62,9 +62,9 @@ fn pass(
     let wide = ways::wide(card, east);
     let high = ways::high(card, east);
     for j in 0..high {
-        let rests = rest::both_rest(card, east, marks, j);
+        let still = still::both_still(card, east, marks, j);
         for i in 0..wide {
-            let u = velocity(card, east, ground, state, tide, i, j, rests);
+            let u = velocity(card, east, ground, state, tide, i, j, still);
             if !velocity::speed_fits(u) {
                 return false;
             }

@@ -1,5 +1,5 @@
 // Refusal 6: whether no own share is negative. A look at the eastward inner faces and one at the northward ones; neither is left early, so that
-// several faces are looked at at once. At rest, a face's own share is all the water in its cells.
+// several faces are looked at at once. A still face's own share is all the water in its cells.
 use around::faces;
 use layout::ways;
 use rules::Card;
@@ -38,9 +38,9 @@ fn look(card: Card, east: bool, ground: &[i32], state: &[i32], tide: &[i32], mar
     let rows = ways::back(!east, card.rows as usize);
     let mut fit = true;
     for j in 0..rows {
-        let rests = rest::both_rest(card, east, marks, ways::forth(!east, j));
+        let still = still::both_still(card, east, marks, ways::forth(!east, j));
         for i in 0..columns {
-            let fits = if rests {
+            let fits = if still {
                 true
             } else {
                 share_fits(card, east, ground, state, tide, i, j)

@@ -14,16 +14,16 @@ use Rattle.laws.specs.Signed.{word-is}
 use Rattle.laws.specs.Passes.{Rows, Cells, begin, begin-row, place, more, more-rows, done}
 use Rattle.layout.specs.Ways.{transfers}
 use Rattle.layout.specs.Places.{FaceIn}
-use Rattle.rest.proofs.Resting.{row-at, near-row}
+use Rattle.still.proofs.Rows.{row-at, near-row, both-rows}
 use Rattle.transfers.proofs.Crossings.{over-still}
 use Rattle.transfers.proofs.over_faces.Statement.{statement}
 use Rattle.transfers.proofs.over_faces.Tie as tie
 
 abbrev Inv-loop2 : tie.InvT-loop2
-Inv-loop2 card east state marks part₀ wide high j rests i₀ part i = Cells wide (transfers card (readState card state) east) high j part₀ part i
+Inv-loop2 card east state marks part₀ wide high j still i₀ part i = Cells wide (transfers card (readState card state) east) high j part₀ part i
 
 abbrev μ-loop2 : tie.MeasureT-loop2
-μ-loop2 card east state marks part₀ wide high j rests i₀ part i = wide - i
+μ-loop2 card east state marks part₀ wide high j still i₀ part i = wide - i
 
 abbrev Inv-loop : tie.InvT-loop
 Inv-loop card east state marks part₀ wide high j₀ part j = Rows wide (transfers card (readState card state) east) high part₀ part j
@@ -35,10 +35,10 @@ abbrev μ-loop : tie.MeasureT-loop
 abbrev start : tie.After-high Inv-loop2 μ-loop2 Inv-loop μ-loop → tie.Start Inv-loop2 μ-loop2 Inv-loop μ-loop
 start c = c .before .before .before
 
-abbrev row : tie.In-loop2 Inv-loop2 μ-loop2 Inv-loop μ-loop → tie.After-both-rest Inv-loop2 μ-loop2 Inv-loop μ-loop
+abbrev row : tie.In-loop2 Inv-loop2 μ-loop2 Inv-loop μ-loop → tie.After-both-still Inv-loop2 μ-loop2 Inv-loop μ-loop
 row c = c .before .before
 
-abbrev sized : tie.After-both-rest Inv-loop2 μ-loop2 Inv-loop μ-loop → tie.After-high Inv-loop2 μ-loop2 Inv-loop μ-loop
+abbrev sized : tie.After-both-still Inv-loop2 μ-loop2 Inv-loop μ-loop → tie.After-high Inv-loop2 μ-loop2 Inv-loop μ-loop
 sized c = c .before .before .before
 
 wide-requires : tie.Need-wide-requires Inv-loop2 μ-loop2 Inv-loop μ-loop
@@ -54,8 +54,8 @@ long c = start c .pre .long ∙ sym (ap₂ _*_ (c .high .ensures) (c .before .wi
 loop-holds : tie.Need-loop-holds Inv-loop2 μ-loop2 Inv-loop μ-loop
 loop-holds c = begin (le-of-eq (sym (long c)))
 
-both-rest-requires : tie.Need-both-rest-requires Inv-loop2 μ-loop2 Inv-loop μ-loop
-both-rest-requires c κs =
+both-still-requires : tie.Need-both-still-requires Inv-loop2 μ-loop2 Inv-loop μ-loop
+both-still-requires c κs =
     let d = c .before .before in
     record { room = start d .pre .marked .room; row = rw (d .high .ensures) at (c .loop-test .taken) }
 
@@ -71,7 +71,7 @@ face c =
 over-face-requires : tie.Need-over-face-requires Inv-loop2 μ-loop2 Inv-loop μ-loop
 over-face-requires c κs = record { limited = start (sized (row (c .before))) .pre .limited; face = face (c .before) }
 
--- what is stored: in a row at rest nothing crosses
+-- what is stored: in a still row nothing crosses
 crossed-is : (c : tie.Joined1 Inv-loop2 μ-loop2 Inv-loop μ-loop) → let r = row (c .before) in let a = start (sized r) .args in
     toZ w32 (c .if1 .crossed) ≡ transfers (a .card) (readState (a .card) (a .state .now)) (a .east) (c .before .before .loop2 .i) (r .before .before .loop .j)
 crossed-is c =
@@ -79,7 +79,7 @@ crossed-is c =
     let s = start (sized r) in
     let here = face (c .before) in
     ⊎-elim
-    (λ t. ap (toZ w32) (t .1) ∙ sym (over-still _ _ _ _ _ (row-at _ _ _ _ _ (here .column) (near-row (r .both-rest .ensures (t .0 .taken) _ (s .pre .marked) .rowL) _))))
+    (λ t. ap (toZ w32) (t .1) ∙ sym (over-still _ _ _ _ _ (row-at _ _ _ _ _ (here .column) (near-row (both-rows (s .pre .marked) _ (here .row) (sym (r .both-still .ensures) ∙ t .0 .taken) .rowL) _))))
     (λ t. let over = t .1 in ap (toZ w32) (t .2) ∙ word-is (over .result) (over .ok) (over .ensures))
     (c .if1 .came)
 
@@ -131,7 +131,7 @@ over-faces-spec =
     wide-requires
     high-requires
     loop-holds
-    both-rest-requires
+    both-still-requires
     loop2-holds
     over-face-requires
     put-requires

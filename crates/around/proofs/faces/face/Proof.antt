@@ -6,7 +6,8 @@ use Rattle.laws.specs.Signed.{word-is}
 use Rattle.laws.specs.Places.{height-read}
 use Rattle.transfers.proofs.Sites.{facts, face-place}
 use Rattle.around.specs.Around.{gatheredFace}
-use Rattle.around.proofs.Around.{Cell, near-in, far-in, cell-k, cell-l, gathered-is}
+use Rattle.layout.proofs.Pointing.{Cell, near-in, far-in}
+use Rattle.around.proofs.Around.{cell-k, cell-l, gathered-is}
 use Rattle.around.proofs.Flows.{sound-of, ground-in, state-in, tide-in, ground-is, new-is, in-tide, crossed-is}
 use Rattle.around.proofs.faces.face.Statement.{statement}
 use Rattle.around.proofs.faces.face.Tie as tie

@@ -1,4 +1,4 @@
--- `limit_kept`: every cell before this one kept the limit, each of a row at rest does, and one cell that breaks it decides for all.
+-- `limit_kept`: every cell before this one kept the limit, each of a still row does, and one cell that breaks it decides for all.
 use mathlib.Core.Path.{sym, _∙_}
 use Prim.Native.Nat.{_-_}
 use native.Mathlib.Omega.{arith}
@@ -7,7 +7,7 @@ use borrow.Author.Tests.{not-true, not-false}
 use Rattle.rules.specs.Site.{readState}
 use Rattle.rules.specs.Step.{withinLimit, limitKept}
 use Rattle.laws.specs.Looks.{RowsPass, CellsPass, begin, begin-row, more, more-rows, whole-row, done, broke}
-use Rattle.rest.specs.Rest.{AtRest}
+use Rattle.still.specs.Rows.{CellsStill}
 use Rattle.heights.proofs.Still.{still-within}
 use Rattle.heights.proofs.look.limit_kept.Statement.{statement}
 use Rattle.heights.proofs.look.limit_kept.Tie as tie
@@ -49,13 +49,13 @@ add-j c = omega arith
 look-less : tie.Need-look-less Inv-loop μ-loop Inv-look μ-look
 look-less c = omega arith
 
--- a row at rest is passed over
+-- a still row is passed over
 look-again : tie.Need-look-again Inv-loop μ-loop Inv-look μ-look
 look-again c =
     let d = c .before .before in
     let h = d .look-test .taken in
-    let still : AtRest _ _ _ = record { cells = sym (start d .pre .marked .is _ h) ∙ c .if1 .taken } in
-    whole-row (d .before .look .inv) h (still-within still)
+    let still : CellsStill _ _ _ = record { cells = sym (start d .pre .marked .is _ h) ∙ c .if1 .taken } in
+    whole-row (d .before .look .inv) h (λ i k. still-within still i (record { column = k; row = h }))
 
 loop-holds : tie.Need-loop-holds Inv-loop μ-loop Inv-look μ-look
 loop-holds c = begin-row (c .before .before .before .look .inv)

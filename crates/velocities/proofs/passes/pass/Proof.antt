@@ -8,16 +8,17 @@ use borrow.Author.Tests.{not-true, not-false}
 use Rattle.rules.specs.Site.{speedFits}
 use Rattle.laws.specs.Passes.{place}
 use Rattle.laws.specs.Tested.{RowsTested, CellsTested, begin, begin-row, more, more-rows, done, left}
+use Rattle.still.proofs.Rows.{both-rows}
 use Rattle.velocities.specs.Velocities.{newSpeeds}
 use Rattle.velocities.proofs.Speeds.{speed-says, speed-fits-word, speed-word}
 use Rattle.velocities.proofs.passes.pass.Statement.{statement}
 use Rattle.velocities.proofs.passes.pass.Tie as tie
 
 abbrev Inv-loop2 : tie.InvT-loop2
-Inv-loop2 card east ground state tide marks part₀ wide high j rests i₀ part i = CellsTested wide (newSpeeds card ground state east) speedFits high j part₀ part i
+Inv-loop2 card east ground state tide marks part₀ wide high j still i₀ part i = CellsTested wide (newSpeeds card ground state east) speedFits high j part₀ part i
 
 abbrev μ-loop2 : tie.MeasureT-loop2
-μ-loop2 card east ground state tide marks part₀ wide high j rests i₀ part i = wide - i
+μ-loop2 card east ground state tide marks part₀ wide high j still i₀ part i = wide - i
 
 abbrev Inv-loop : tie.InvT-loop
 Inv-loop card east ground state tide marks part₀ wide high j₀ part j = RowsTested wide (newSpeeds card ground state east) speedFits high part₀ part j
@@ -29,7 +30,7 @@ abbrev μ-loop : tie.MeasureT-loop
 abbrev start : tie.After-high Inv-loop2 μ-loop2 Inv-loop μ-loop → tie.Start Inv-loop2 μ-loop2 Inv-loop μ-loop
 start c = c .before .before .before
 
-abbrev row : tie.In-loop2 Inv-loop2 μ-loop2 Inv-loop μ-loop → tie.After-both-rest Inv-loop2 μ-loop2 Inv-loop μ-loop
+abbrev row : tie.In-loop2 Inv-loop2 μ-loop2 Inv-loop μ-loop → tie.After-both-still Inv-loop2 μ-loop2 Inv-loop μ-loop
 row c = c .before .before
 
 abbrev sized : tie.In-loop Inv-loop2 μ-loop2 Inv-loop μ-loop → tie.After-high Inv-loop2 μ-loop2 Inv-loop μ-loop
@@ -44,8 +45,8 @@ high-requires c κs = search needs
 loop-holds : tie.Need-loop-holds Inv-loop2 μ-loop2 Inv-loop μ-loop
 loop-holds c = begin (rw (c .high .ensures, c .before .wide .ensures, start c .pre .long) (le-refl _))
 
-both-rest-requires : tie.Need-both-rest-requires Inv-loop2 μ-loop2 Inv-loop μ-loop
-both-rest-requires c κs = record { room = start (sized c) .pre .marked .room; row = rw (sized c .high .ensures) at (c .loop-test .taken) }
+both-still-requires : tie.Need-both-still-requires Inv-loop2 μ-loop2 Inv-loop μ-loop
+both-still-requires c κs = record { room = start (sized c) .pre .marked .room; row = rw (sized c .high .ensures) at (c .loop-test .taken) }
 
 loop2-holds : tie.Need-loop2-holds Inv-loop2 μ-loop2 Inv-loop μ-loop
 loop2-holds c = begin-row (c .before .before .loop .inv)
@@ -57,7 +58,7 @@ velocity-requires c κs =
     record {
       flowing = start d .pre .flowing;
       face = record { column = omega (arith, d .before .wide .ensures); row = omega (arith, d .high .ensures) };
-      both = λ t. r .both-rest .ensures t _ (start d .pre .marked);
+      both = λ t. both-rows (start d .pre .marked) _ (omega (arith, d .high .ensures)) (sym (r .both-still .ensures) ∙ t);
     }
 
 speed-fits-requires : tie.Need-speed-fits-requires Inv-loop2 μ-loop2 Inv-loop μ-loop
@@ -134,7 +135,7 @@ pass-spec =
     wide-requires
     high-requires
     loop-holds
-    both-rest-requires
+    both-still-requires
     loop2-holds
     velocity-requires
     speed-fits-requires

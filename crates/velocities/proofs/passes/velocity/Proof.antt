@@ -1,4 +1,4 @@
--- `velocity`: 0 on a wall; any other face has a cell behind it, and all the numbers around it are in their ranges, be they eighteen or, at rest, four.
+-- `velocity`: 0 on a wall; any other face has a cell behind it, and all the numbers around it are in their ranges, be they eighteen or, in a still row, four.
 use mathlib.Core.Path.{_≡_, _∙_, sym, subst}
 use mathlib.Core.Bool.{false}
 use borrow.Author.Needs.{needs}
@@ -36,10 +36,10 @@ back-requires c κs = beside _ _ _ _ (c .before .before .pre .face) (no-wall c) 
 back-requires-2 : tie.Need-back-requires-2
 back-requires-2 c κs = beside _ _ _ _ (c .before .before .before .pre .face) (no-wall (c .before)) .back-north
 
--- ---- in a row at rest
+-- ---- in a still row
 
-face-requires : tie.Need-face-requires
-face-requires c κs = still-place (inner (c .before))
+still-face-requires : tie.Need-still-face-requires
+still-face-requires c κs = still-place (inner (c .before))
 
 side-requires : tie.Need-side-requires
 side-requires c κs = search needs
@@ -49,7 +49,7 @@ new-velocity-requires c κs =
     let b = c .before .before .before in
     let sound = sound-of (start b .pre .flowing) in
     record {
-      face = subst FaceFits (sym (c .before .face .ensures)) (still-fits (inner b));
+      face = subst FaceFits (sym (c .before .still-face .ensures)) (still-fits (inner b));
       time = time sound;
       side = rw (c .side .ensures) (side-fits sound _);
     }
@@ -62,13 +62,13 @@ returns-2 c =
     let p = start b .pre in
     toZ-ofZ (record { sfits = c .new-velocity .ok })
     ∙ c .new-velocity .ensures
-    ∙ rw (s .before .face .ensures)
+    ∙ rw (s .before .still-face .ensures)
     (still-is (p .flowing) _ (p .face) (no-wall (b .before .before)) (b .before .back .ensures) (b .back2 .ensures) (s .side .ensures) (p .both (t .if2 .taken)))
 
 -- ---- in any other
 
-face-requires-2 : tie.Need-face-requires-2
-face-requires-2 c κs = inner (c .before)
+face-requires : tie.Need-face-requires
+face-requires c κs = inner (c .before)
 
 side-requires-2 : tie.Need-side-requires-2
 side-requires-2 c κs = search needs
@@ -78,7 +78,7 @@ new-velocity-requires-2 c κs =
     let b = c .before .before .before in
     let sound = sound-of (start b .pre .flowing) in
     record {
-      face = subst FaceFits (sym (c .before .face2 .ensures)) (face-fits (inner b));
+      face = subst FaceFits (sym (c .before .face .ensures)) (face-fits (inner b));
       time = time sound;
       side = rw (c .side2 .ensures) (side-fits sound _);
     }
@@ -90,7 +90,7 @@ returns-3 c =
     let p = start b .pre in
     toZ-ofZ (record { sfits = c .new-velocity2 .ok })
     ∙ c .new-velocity2 .ensures
-    ∙ rw (s .before .face2 .ensures)
+    ∙ rw (s .before .face .ensures)
     (inner-is (p .flowing) _ (p .face) (no-wall (b .before .before)) (b .before .back .ensures) (b .back2 .ensures) (s .side2 .ensures))
 
 pub velocity-spec : {M : Type 1} → statement M
@@ -101,11 +101,11 @@ velocity-spec =
     returns
     back-requires
     back-requires-2
-    face-requires
+    still-face-requires
     side-requires
     new-velocity-requires
     returns-2
-    face-requires-2
+    face-requires
     side-requires-2
     new-velocity-requires-2
     returns-3)

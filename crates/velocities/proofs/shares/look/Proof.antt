@@ -8,19 +8,20 @@ use borrow.Author.Needs.{needs}
 use Rattle.laws.specs.Gather.{RowsGathered, CellsGathered, rows-none, row-none, row-more, rows-more, rows-all}
 use Rattle.transfers.proofs.Sites.{facts}
 use Rattle.velocities.specs.Shares.{shareFits}
-use Rattle.layout.specs.Ways.{forth}
+use Rattle.layout.specs.Ways.{high, forth}
+use Rattle.still.proofs.Rows.{both-rows}
 use Rattle.around.specs.Faces.{AtFace}
 use Rattle.around.proofs.Around.{forth-more, forth-back}
 use Rattle.around.proofs.Flows.{sound-of}
-use Rattle.velocities.proofs.Resting.{near-side, fits-at-rest}
+use Rattle.velocities.proofs.Still.{near-side, fits-still}
 use Rattle.velocities.proofs.shares.look.Statement.{statement}
 use Rattle.velocities.proofs.shares.look.Tie as tie
 
 abbrev Inv-loop2 : tie.InvT-loop2
-Inv-loop2 card east ground state tide marks columns rows fit₀ j rests i₀ fit i = CellsGathered columns (shareFits card ground state east) j fit i
+Inv-loop2 card east ground state tide marks columns rows fit₀ j still i₀ fit i = CellsGathered columns (shareFits card ground state east) j fit i
 
 abbrev μ-loop2 : tie.MeasureT-loop2
-μ-loop2 card east ground state tide marks columns rows fit₀ j rests i₀ fit i = columns - i
+μ-loop2 card east ground state tide marks columns rows fit₀ j still i₀ fit i = columns - i
 
 abbrev Inv-loop : tie.InvT-loop
 Inv-loop card east ground state tide marks columns rows fit₀ j₀ fit j = RowsGathered columns rows (shareFits card ground state east) fit j
@@ -32,7 +33,7 @@ abbrev μ-loop : tie.MeasureT-loop
 abbrev start : tie.After-back2 Inv-loop2 μ-loop2 Inv-loop μ-loop → tie.Start Inv-loop2 μ-loop2 Inv-loop μ-loop
 start c = c .before .before .before .before .before
 
-abbrev row : tie.In-loop2 Inv-loop2 μ-loop2 Inv-loop μ-loop → tie.After-both-rest Inv-loop2 μ-loop2 Inv-loop μ-loop
+abbrev row : tie.In-loop2 Inv-loop2 μ-loop2 Inv-loop μ-loop → tie.After-both-still Inv-loop2 μ-loop2 Inv-loop μ-loop
 row c = c .before .before
 
 abbrev sized : tie.In-loop Inv-loop2 μ-loop2 Inv-loop μ-loop → tie.After-back2 Inv-loop2 μ-loop2 Inv-loop μ-loop
@@ -63,10 +64,12 @@ forth-requires c κs =
     let card = facts (sound-of (s .pre .flowing)) .card in
     omega (arith, forth-more (not (s .args .east)) (c .before .loop .j), row-l c)
 
-both-rest-requires : tie.Need-both-rest-requires Inv-loop2 μ-loop2 Inv-loop μ-loop
-both-rest-requires c κs =
-    let s = start (sized (c .before)) in
-    record { room = s .pre .marked .room; row = near-side (s .args .card) _ (omega (arith, row-l (c .before), c .forth .ensures)) }
+-- and has a row of faces at its near side
+in-high : (c : tie.After-forth Inv-loop2 μ-loop2 Inv-loop μ-loop) → let a = start (sized (c .before)) .args in c .forth .result < high (a .card) (a .east)
+in-high c = let s = start (sized (c .before)) in near-side _ (facts (sound-of (s .pre .flowing)) .card) (omega (arith, row-l (c .before), c .forth .ensures))
+
+both-still-requires : tie.Need-both-still-requires Inv-loop2 μ-loop2 Inv-loop μ-loop
+both-still-requires c κs = record { room = start (sized (c .before)) .pre .marked .room; row = in-high c }
 
 loop2-holds : tie.Need-loop2-holds Inv-loop2 μ-loop2 Inv-loop μ-loop
 loop2-holds c = row-none (c .before .before .before .loop .inv)
@@ -85,14 +88,14 @@ face c =
 share-fits-requires : tie.Need-share-fits-requires Inv-loop2 μ-loop2 Inv-loop μ-loop
 share-fits-requires c κs = face (c .before)
 
--- what is gathered: at rest every own share fits
+-- what is gathered: every own share of a still row fits
 fits-is : (c : tie.Joined1 Inv-loop2 μ-loop2 Inv-loop μ-loop) → let l = row (c .before) .before .before in let a = start (sized l) .args in
     c .if1 .fits ≡ shareFits (a .card) (a .ground .now) (a .state .now) (a .east) (c .before .before .loop2 .i) (l .before .loop .j)
 fits-is c =
     let r = row (c .before) in
     let s = start (sized (r .before .before)) in
     ⊎-elim
-    (λ t. t .1 ∙ sym (fits-at-rest (face (c .before)) (r .before .forth .ensures) (r .both-rest .ensures (t .0 .taken) _ (s .pre .marked))))
+    (λ t. t .1 ∙ sym (fits-still (face (c .before)) (r .before .forth .ensures) (both-rows (s .pre .marked) _ (in-high (r .before)) (sym (r .both-still .ensures) ∙ t .0 .taken))))
     (λ t. t .2 ∙ t .1 .ensures)
     (c .if1 .came)
 
@@ -133,7 +136,7 @@ look-spec =
     back-requires-2
     loop-holds
     forth-requires
-    both-rest-requires
+    both-still-requires
     loop2-holds
     share-fits-requires
     add-i

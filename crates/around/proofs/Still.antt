@@ -1,12 +1,13 @@
--- Between two rows of cells at rest nothing crosses any face, so that a face there carries no momentum: its new velocity is that of the face at rest, and
--- its own share is all the water in its cells.
-use Prim.Native.Nat.{ℕ, _+_, zero-le}
+-- Between two still rows of cells nothing crosses any face, so that a face there carries no momentum: its new velocity is that of the still face, and its own
+-- share is all the water in its cells.
+use Prim.Native.Nat.{ℕ}
 use mathlib.Core.Path.{_≡_, _∙_, refl, sym}
 use mathlib.Core.Bool.{Bool, true, not}
 use mathlib.Core.List.{List}
-use borrow.Author.Tests.{le-leb}
 use lib.Dec.{T}
-use lib.IntN.{ℤ, pos, negsuc, _+ℤ_, _-ℤ_, zero-*ℤ, *ℤ-zero}
+use lib.IntN.{ℤ, pos, zero-*ℤ, *ℤ-zero, +ℤ-idr}
+use Rattle.laws.specs.Tests.{true-of}
+use Rattle.laws.specs.Numbers.{leZ-add}
 use lib.Signed.{leZ}
 use Rattle.rules.specs.declared.Card.{Card}
 use Rattle.rules.specs.declared.Face.{Face}
@@ -14,8 +15,8 @@ use Rattle.rules.specs.Grid.{Field}
 use Rattle.rules.specs.Site.{readGround, readState}
 use Rattle.rules.specs.Step.{ownShare, outAhead, outBehind, outAbove, outBelow, positive, brought, carried, rise, slope, newVelocity}
 use Rattle.layout.specs.Ways.{forth}
-use Rattle.rest.specs.Rest.{AtRest}
-use Rattle.rest.proofs.Resting.{near-rests, far-rests}
+use Rattle.still.specs.Rows.{CellsStill}
+use Rattle.still.proofs.Rows.{near-still, far-still}
 use Rattle.transfers.proofs.Crossings.{over-still}
 use Rattle.around.specs.Around.{gatheredFace}
 use Rattle.around.specs.Faces.{AtFace, innerFace}
@@ -25,7 +26,7 @@ use Rattle.around.proofs.Flows.{tide-height}
 use Rattle.around.proofs.Ranges.{face-fits}
 
 -- a face that has no velocity, around which nothing crosses
-pub record Still (f : Face) : Type 0 where
+record Still (f : Face) : Type 0 where
   pub u : f .u ≡ pos 0
   pub own : f .own ≡ pos 0
   pub ahead : f .ahead ≡ pos 0
@@ -35,20 +36,15 @@ pub record Still (f : Face) : Type 0 where
   pub belowK : f .belowK ≡ pos 0
   pub belowL : f .belowL ≡ pos 0
 
-all-of : (x y : ℤ) → T (leZ (pos 0) x) → T (leZ (pos 0) y) → leZ (pos 0) (x +ℤ y -ℤ pos 0) ≡ true
-all-of (pos m) (pos n) p q = le-leb 0 (m + n + 0) zero-le
-all-of (pos m) (negsuc n) p q = absurd q
-all-of (negsuc m) y p q = absurd p
-
 module _ {f : Face} (s : Still f) where
-  pub still-carried : carried f ≡ pos 0
+  still-carried : carried f ≡ pos 0
   unfolding carried brought outAhead outBehind outAbove outBelow positive
   still-carried = rw (s .u, s .own, s .ahead, s .behind, s .aboveK, s .aboveL, s .belowK, s .belowL, *ℤ-zero, zero-*ℤ (f .uAhead), zero-*ℤ (f .uBehind), zero-*ℤ (f .uAbove), zero-*ℤ (f .uBelow))
 
   -- what stays is all that there is
   share-is : T (leZ (pos 0) (f .oldK)) → T (leZ (pos 0) (f .oldL)) → leZ (pos 0) (ownShare f) ≡ true
   unfolding ownShare outAhead outBehind outAbove outBelow positive
-  share-is p q = rw (s .own, s .ahead, s .behind, s .aboveK, s .aboveL, s .belowK, s .belowL) (all-of (f .oldK) (f .oldL) p q)
+  share-is p q = rw (s .own, s .ahead, s .behind, s .aboveK, s .aboveL, s .belowK, s .belowL, +ℤ-idr) (true-of _ (leZ-add (pos 0) (f .oldK) (pos 0) (f .oldL) p q))
 
 all-still : (g h : Field) (east : Bool) (i j : ℕ) → Still (stillFace g h east i j)
 unfolding stillFace
@@ -60,22 +56,22 @@ same-velocity : (dt d : ℕ) (f e : Face) → f .newK ≡ e .newK → f .newL �
 unfolding newVelocity slope rise
 same-velocity dt d f e hK hL gK gL a = rw (a, hK, hL, gK, gL)
 
-module _ {c : Card} {g s t : List ℤ} {east : Bool} {i j : ℕ} (a : AtFace c g s t east i j) (rowK : AtRest c (readState c s) j) (rowL : AtRest c (readState c s) (forth (not east) j)) where
+module _ {c : Card} {g s t : List ℤ} {east : Bool} {i j : ℕ} (a : AtFace c g s t east i j) (rowK : CellsStill c (readState c s) j) (rowL : CellsStill c (readState c s) (forth (not east) j)) where
   gathered-still : Still (gatheredFace c (readGround c g) (readState c s) east i j (forth east i) (forth (not east) j))
   unfolding gatheredFace
   gathered-still =
       let w = readState c s in
-      let k = cell-k a .column in
-      let l = cell-l a refl refl .column in
+      let k = cell-k a in
+      let l = cell-l a refl refl in
       record {
-        u = near-rests rowL l east;
-        own = over-still c w east _ _ (near-rests rowL l east);
-        ahead = over-still c w east _ _ (far-rests rowL l east);
-        behind = over-still c w east _ _ (near-rests rowK k east);
-        aboveK = over-still c w (not east) _ _ (far-rests rowK k (not east));
-        aboveL = over-still c w (not east) _ _ (far-rests rowL l (not east));
-        belowK = over-still c w (not east) _ _ (near-rests rowK k (not east));
-        belowL = over-still c w (not east) _ _ (near-rests rowL l (not east));
+        u = near-still rowL l east;
+        own = over-still c w east _ _ (near-still rowL l east);
+        ahead = over-still c w east _ _ (far-still rowL l east);
+        behind = over-still c w east _ _ (near-still rowK k east);
+        aboveK = over-still c w (not east) _ _ (far-still rowK k (not east));
+        aboveL = over-still c w (not east) _ _ (far-still rowL l (not east));
+        belowK = over-still c w (not east) _ _ (near-still rowK k (not east));
+        belowL = over-still c w (not east) _ _ (near-still rowL l (not east));
       }
 
   inner-still : Still (innerFace c (readGround c g) (readState c s) east i j)
@@ -84,7 +80,7 @@ module _ {c : Card} {g s t : List ℤ} {east : Bool} {i j : ℕ} (a : AtFace c g
   abbrev height : Field
   height = readState c t .height
 
-  -- the new velocity of the face at rest, over the tide's heights
+  -- the new velocity of the still face, over the tide's heights
   pub still-velocity : (dt d : ℕ) → newVelocity dt d (stillFace (readGround c g) height east i j) ≡ newVelocity dt d (innerFace c (readGround c g) (readState c s) east i j)
   unfolding gatheredFace stillFace
   still-velocity dt d =

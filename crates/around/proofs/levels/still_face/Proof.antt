@@ -1,4 +1,4 @@
--- `face`: cells K and L lie on the site, so that each of the four places lies in its list, and its word is the number there.
+-- `still_face`: cells K and L lie on the site, so that each of the four places lies in its list, and its word is the number there.
 use Prim.Native.Nat.{ℕ, _+_, _*_, _<_}
 use mathlib.Core.Path.{_∙_}
 use native.Mathlib.Omega.{arith}
@@ -7,11 +7,13 @@ use lib.Arith.{digits-lt}
 use lib.IntN.{pos}
 use lib.ListN.{length}
 use Rattle.laws.specs.Signed.{word-is}
+use Rattle.layout.specs.Places.{HeightPlace}
 use Rattle.around.specs.Still.{stillFace}
-use Rattle.around.proofs.Around.{Cell, behind, beyond}
+use Rattle.layout.proofs.Pointing.{Cell}
+use Rattle.around.proofs.Around.{behind, beyond}
 use Rattle.around.proofs.Flows.{ground-read}
-use Rattle.around.proofs.still.face.Statement.{statement}
-use Rattle.around.proofs.still.face.Tie as tie
+use Rattle.around.proofs.levels.still_face.Statement.{statement}
+use Rattle.around.proofs.levels.still_face.Tie as tie
 
 cast-columns : tie.Need-cast-columns
 cast-columns c = search needs
@@ -32,11 +34,15 @@ start c = c .before .before .before
 l : (c : tie.After-forth2) → Cell (start c .args .card) (c .before .forth .result) (c .forth2 .result)
 l c = beyond (start c .args .east) _ _ (start c .pre .column) (start c .pre .row) (c .before .forth .ensures) (c .forth2 .ensures)
 
+-- a cell's place in the tide
+tide-in : (s : tie.Start) {m n : ℕ} → Cell (s .args .card) m n → HeightPlace (s .args .card) (s .args .tide .now) m n
+tide-in s h = record { long = s .pre .tide; column = h .column; row = h .row }
+
 height-at-requires : tie.Need-height-at-requires
-height-at-requires c κs = let s = start c in record { long = s .pre .tide; column = k s .column; row = k s .row }
+height-at-requires c κs = let s = start c in search (tide-in s, k s, l c)
 
 height-at-requires-2 : tie.Need-height-at-requires-2
-height-at-requires-2 c κs = let d = c .before in record { long = start d .pre .tide; column = l d .column; row = l d .row }
+height-at-requires-2 c κs = let d = c .before in search (tide-in (start d), k (start d), l d)
 
 -- a cell's place in the ground
 ground-in : (s : tie.Start) {m n : ℕ} → Cell (s .args .card) m n → 0 + (n * s .args .card .columns + m) < length (s .args .ground .now)
@@ -78,8 +84,8 @@ returns c =
       uBelow = pos 0;
     })
 
-pub face-spec : {M : Type 1} → statement M
-face-spec =
+pub still-face-spec : {M : Type 1} → statement M
+still-face-spec =
     tie.close
     (tie.spec
     cast-columns

@@ -1,4 +1,4 @@
--- `row_rests`: one turn gathers the test of one more face; the middle one is one of them.
+-- `row_still`: one turn gathers the test of one more face; the middle one is one of them.
 use mathlib.Core.Path.{sym, _∙_}
 use Prim.Native.Nat.{_-_, _/_, _<_}
 use native.Mathlib.Omega.{arith}
@@ -7,17 +7,16 @@ use borrow.Author.Tests.{not-true}
 use Rattle.rules.specs.Site.{readState, isZero}
 use Rattle.laws.specs.Gather.{Gathered, gather-none, gather-more, gather-all}
 use Rattle.layout.specs.Ways.{wide, speeds}
-use Rattle.layout.specs.Places.{FacePlace}
-use Rattle.rest.specs.Rest.{rowRests}
-use Rattle.rest.proofs.Resting.{row-moves, middle-in}
-use Rattle.rest.proofs.row_rests.Statement.{statement}
-use Rattle.rest.proofs.row_rests.Tie as tie
+use Rattle.still.specs.Rows.{rowStill}
+use Rattle.still.proofs.Rows.{row-moves, middle-in}
+use Rattle.still.proofs.row_still.Statement.{statement}
+use Rattle.still.proofs.row_still.Tie as tie
 
 abbrev Inv-loop : tie.InvT-loop
-Inv-loop card east state j wide rests₀ i₀ rests i = Gathered wide (λ k. isZero (speeds (readState card state) east k j)) rests i
+Inv-loop card east state j wide half still₀ i₀ still i = Gathered wide (λ k. isZero (speeds (readState card state) east k j)) still i
 
 abbrev μ-loop : tie.MeasureT-loop
-μ-loop card east state j wide rests₀ i₀ rests i = wide - i
+μ-loop card east state j wide half still₀ i₀ still i = wide - i
 
 wide-requires : tie.Need-wide-requires Inv-loop μ-loop
 wide-requires c κs = search needs
@@ -26,17 +25,17 @@ wide-requires c κs = search needs
 middle : (c : tie.After-wide Inv-loop μ-loop) → c .wide .result / 2 < wide (c .before .args .card) (c .before .args .east)
 middle c = rw (c .wide .ensures) (middle-in _ _ (c .before .pre .card))
 
-at-rest-requires : tie.Need-at-rest-requires Inv-loop μ-loop
-at-rest-requires c κs = let p = c .before .pre in record { card = p .card; long = p .long; face = record { column = middle c; row = p .row } }
+face-still-requires : tie.Need-face-still-requires Inv-loop μ-loop
+face-still-requires c κs = let p = c .before .pre in record { card = p .card; long = p .long; face = record { column = middle c; row = p .row } }
 
 returns : tie.Need-returns Inv-loop μ-loop
-returns c = row-moves _ _ _ _ _ (middle (c .before .before)) (sym (c .before .at-rest .ensures) ∙ not-true _ (c .if1 .taken))
+returns c = row-moves _ _ _ _ _ (middle (c .before .before)) (sym (c .before .face-still .ensures) ∙ not-true _ (c .if1 .taken))
 
 loop-holds : tie.Need-loop-holds Inv-loop μ-loop
 loop-holds c = gather-none
 
-at-rest-requires-2 : tie.Need-at-rest-requires-2 Inv-loop μ-loop
-at-rest-requires-2 c κs =
+face-still-requires-2 : tie.Need-face-still-requires-2 Inv-loop μ-loop
+face-still-requires-2 c κs =
     let w = c .before .before .before .before in
     let p = w .before .pre in
     record { card = p .card; long = p .long; face = record { column = rw (w .wide .ensures) at (c .loop-test .taken); row = p .row } }
@@ -48,23 +47,23 @@ loop-less : tie.Need-loop-less Inv-loop μ-loop
 loop-less c = omega arith
 
 loop-again : tie.Need-loop-again Inv-loop μ-loop
-loop-again c = gather-more (c .before .before .loop .inv) (c .before .loop-test .taken) (c .at-rest2 .ensures)
+loop-again c = gather-more (c .before .before .loop .inv) (c .before .loop-test .taken) (c .face-still2 .ensures)
 
 returns-2 : tie.Need-returns-2 Inv-loop μ-loop
-unfolding rowRests
+unfolding rowStill
 returns-2 c = rw (← c .before .before .before .before .wide .ensures) (gather-all (c .before .loop .inv) (c .loop-test .left))
 
-pub row-rests-spec : {M : Type 1} → statement M
-row-rests-spec =
+pub row-still-spec : {M : Type 1} → statement M
+row-still-spec =
     tie.close
     (tie.spec
     Inv-loop
     μ-loop
     wide-requires
-    at-rest-requires
+    face-still-requires
     returns
     loop-holds
-    at-rest-requires-2
+    face-still-requires-2
     add-i
     loop-less
     loop-again

@@ -1,10 +1,10 @@
--- `at_rest`: the test is made of the velocity that stands there.
+-- `face_still`: the test is made of the velocity that stands there.
 use mathlib.Core.Path.{_∙_, ap}
 use borrow.Author.Needs.{needs}
 use Rattle.rules.specs.Site.{isZero}
 use Rattle.laws.specs.Signed.{word-is}
-use Rattle.rest.proofs.at_rest.Statement.{statement}
-use Rattle.rest.proofs.at_rest.Tie as tie
+use Rattle.still.proofs.face_still.Statement.{statement}
+use Rattle.still.proofs.face_still.Tie as tie
 
 face-at-requires : tie.Need-face-at-requires
 face-at-requires c κs = search needs
@@ -17,5 +17,5 @@ returns c =
     let u = c .before .face-at in
     c .is-zero .ensures ∙ ap isZero (word-is (u .result) (u .ok) (u .ensures))
 
-pub at-rest-spec : {M : Type 1} → statement M
-at-rest-spec = tie.close (tie.spec face-at-requires is-zero-requires returns)
+pub face-still-spec : {M : Type 1} → statement M
+face-still-spec = tie.close (tie.spec face-at-requires is-zero-requires returns)

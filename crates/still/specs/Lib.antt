@@ -1,2 +1,2 @@
-pub mod Rest
+pub mod Rows
 pub mod Marks
