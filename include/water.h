@@ -20,12 +20,13 @@
  *     water_run              200,000       15,000     1,000
  *     water_search            38,000       38,000    38,000
  *     water_search_lists       6,000        6,000     6,000
- *     water_read_sheet       265,000       18,000     1,000
+ *     water_read_sheet         1,000        1,000     1,000
  *     water_write_sheet        1,000        1,000     1,000
  *     water_depth_text         1,000        1,000     1,000
  *
- * Small is a site whose state has at most 3,136 words, as with 32 columns and 32 rows. Refused means with 1, 2 or 3, and by the
- * sheet reader with 9, 1 or 2: its 3, like the 4 to 7 of a step or a run, takes what the site takes.
+ * Small is a site whose state has at most 3,136 words, as with 32 columns and 32 rows; where it has at most 800, as with 16 and 16,
+ * water_step takes 8,000. Refused means with 1, 2 or 3, and by the sheet reader with 9 too: the 4 to 7 of a step or a run take what
+ * the site takes.
  */
 #ifndef WATER_H
 #define WATER_H

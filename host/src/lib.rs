@@ -15,13 +15,13 @@
 //! | [`calls::run`] | 200,000 | 15,000 | 1,000 |
 //! | [`calls::search`] | 38,000 | 38,000 | 38,000 |
 //! | [`calls::search_lists`] | 6,000 | 6,000 | 6,000 |
-//! | [`calls::read_sheet`] | 265,000 | 18,000 | 1,000 |
+//! | [`calls::read_sheet`] | 1,000 | 1,000 | 1,000 |
 //! | [`calls::write_sheet`] | 1,000 | 1,000 | 1,000 |
 //! | [`calls::depth_text`] | 1,000 | 1,000 | 1,000 |
 //!
-//! Small is a site whose state has at most 3,136 words, as with 32 columns and 32 rows. Refused means with `Card`, `Length` or `Value`,
-//! and by the sheet reader with `Sheet`, `Card` or `Length`: its `Value`, like the later refusals of a step or a run, takes what the site
-//! takes. A [`Site`] takes as much as the calls that it makes.
+//! Small is a site whose state has at most 3,136 words, as with 32 columns and 32 rows; where it has at most 800, as with 16 and 16, a step
+//! takes 8,000. Refused means with `Card`, `Length` or `Value`, and by the sheet reader with `Sheet` too: the later refusals of a step or a
+//! run take what the site takes. A [`Site`] takes as much as the calls that it makes.
 //!
 //! # The archive
 //!

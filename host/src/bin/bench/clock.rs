@@ -25,7 +25,7 @@ fn median(mut times: Vec<f64>) -> f64 {
     times[times.len() / 2]
 }
 
-/// The medians in nanoseconds of one call of each. They are measured in rounds; each round begins with another one.
+/// The medians in nanoseconds of one call of each. They are measured in rounds; each begins with another one, and every other goes backwards.
 pub fn compare<const WAYS: usize>(mut works: [&mut dyn FnMut(); WAYS]) -> [f64; WAYS] {
     let mut times = 1;
     while works.iter_mut().any(|work| (measure(work, times) * f64::from(times)) < LEAST) {
@@ -33,7 +33,8 @@ pub fn compare<const WAYS: usize>(mut works: [&mut dyn FnMut(); WAYS]) -> [f64; 
     }
     let mut measured = [(); WAYS].map(|()| Vec::new());
     for round in 0..ROUNDS {
-        for way in (0..WAYS).map(|turn| (round + turn) % WAYS) {
+        for turn in 0..WAYS {
+            let way = (round + if round % 2 == 0 { turn } else { WAYS - turn }) % WAYS;
             measured[way].push(measure(works[way], times));
         }
     }

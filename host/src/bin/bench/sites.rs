@@ -15,7 +15,8 @@ pub enum Water {
     Dry,
     /// A level lake over uneven ground, at rest.
     Lake,
-    /// Dry level ground, and in its middle a puddle that moves, an eighth of the site's side long and wide: 16×16 cells on 128×128.
+    /// Dry level ground, and in its south-west a puddle that moves, an eighth of the site's side long and wide and no less than two cells:
+    /// 16×16 cells on 128×128. No row has it in its middle, where the library looks first for a row that moves.
     Puddle,
     /// Waves that move both ways, all over uneven ground.
     Moving,
@@ -34,12 +35,12 @@ impl Water {
     }
 
     fn wet(self, size: usize, column: usize, row: usize) -> bool {
-        let (first, wide) = ((size - size / 8) / 2, size / 8);
-        let middle = |place: usize| (first..first + wide).contains(&place);
+        let wide = (size / 8).max(2);
+        let inside = |place: usize| (wide / 2..wide / 2 + wide).contains(&place);
         match self {
             Water::Dry => false,
             Water::Lake | Water::Moving => true,
-            Water::Puddle => middle(column) && middle(row),
+            Water::Puddle => inside(column) && inside(row),
         }
     }
 }

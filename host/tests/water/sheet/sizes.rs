@@ -1,5 +1,4 @@
-//! Sheets of the smallest and the largest size, lists of other sizes than the sheet's, and both sides of the size up to which the
-//! reader works in a short list of its own.
+//! Sheets of the smallest and the largest size, and lists of other sizes than the sheet's.
 
 use super::{filled, read, sheet_of};
 use crate::library;
@@ -34,24 +33,20 @@ fn lists_of_the_wrong_length() {
     }
 }
 
-/// The list is short up to 4,160 words of ground and state. A sheet that is refused by its very last word has filled it by then.
+/// A sheet that is refused by its very last word, a wall that is not still: both lists are as lent, small or large.
 #[test]
-fn short_lists_and_long_ones() {
-    for (columns, rows, words) in [(32, 32, 4_160), (15, 68, 4_163)] {
-        let rng = &mut Rng::new(words as u64);
-        let site = filled(columns, rows);
-        assert_eq!(site.ground.len() + site.state.len(), words);
-        let mut sheet = sheet_of(rng, &site);
-        let (heard, back) = read(rng, &sheet, columns, rows);
-        assert_eq!((heard.number, back), (0, site));
+fn refused_by_the_last_word() {
+    for (columns, rows) in [(1, 1), (3, 2), (32, 32), (15, 68), (128, 128)] {
+        let rng = &mut Rng::new(u64::from(columns));
+        let mut sheet = sheet_of(rng, &filled(columns, rows));
         *sheet.last_mut().unwrap() = 1;
         assert_eq!(read(rng, &sheet, columns, rows).0, Heard { number: 3, card: Card::default() });
     }
 }
 
-/// The lists that are lent decide which it is, and not the sheet: small sheets for large lists, and the other way round.
+/// Small sheets for large lists, and the other way round.
 #[test]
-fn lists_on_the_other_side_than_the_sheet() {
+fn lists_of_another_site() {
     let rng = &mut Rng::new(12);
     let refused = Heard { number: 2, card: Card::default() };
     let small = sheet_of(rng, &filled(3, 2));
@@ -59,9 +54,5 @@ fn lists_on_the_other_side_than_the_sheet() {
         assert_eq!(read(rng, &small, columns, rows).0, refused);
         let large = sheet_of(rng, &filled(columns, rows));
         assert_eq!(read(rng, &large, 3, 2).0, refused);
-    }
-    // 4,160 words in all, and 4,161
-    for state in [4_154, 4_155] {
-        assert_eq!(library::read_sheet(rng, &small, &mut [1; 6], &mut vec![2; state]), refused);
     }
 }

@@ -1,6 +1,6 @@
-//! The step: random and hostile sites, each refusal at its boundary, rows at rest, and the sizes at which it works in another way.
+//! The step: random and hostile sites, each refusal at its boundary, still rows, and the sizes at which it works in another way.
 
 mod boundary;
 mod random;
-mod rest;
 mod sizes;
+mod still;

@@ -1,4 +1,4 @@
-//! Rows at rest beside rows that move: what a step passes over must come out as the model works it out face by face.
+//! Still rows beside rows that move: what a step passes over must come out as the model works it out face by face.
 
 use crate::given::Given;
 use crate::library;
@@ -7,22 +7,22 @@ use crate::trials::trials;
 use crate::wild::Wild;
 use water::raw::Card;
 
-/// A site of up to 9 by 9 cells, partly dry, on ground that is level in places, where no face moves yet.
+/// A site of up to 9 by 9 cells, now and then of 128 rows or columns, partly dry, on ground that is level in places and now and then steep,
+/// where no face moves yet.
 fn still(rng: &mut Rng) -> Wild {
-    let card = Card {
-        columns: rng.between(1, 9) as u32,
-        rows: rng.between(1, 9) as u32,
-        dx: 1_000_000,
-        dy: 2_000_000,
-        dt: rng.pick(&[1, 20, 100]),
-        steps: rng.below(4) as u32,
+    let (columns, rows) = match rng.below(64) {
+        0 => (rng.between(1, 2) as u32, 128),
+        1 => (128, rng.between(1, 2) as u32),
+        _ => (rng.between(1, 9) as u32, rng.between(1, 9) as u32),
     };
+    let card = Card { columns, rows, dx: 1_000_000, dy: 2_000_000, dt: rng.pick(&[1, 20, 100]), steps: rng.below(4) as u32 };
     let mut site = Wild::empty(card);
     let (dry, level) = (rng.pick(&[0, 30, 90, 100]), rng.percent(50));
+    let steep = if rng.percent(10) { 50_000_000 } else { 300_000 };
     for k in 0..site.ground.len() {
-        site.ground[k] = if rng.percent(60) { 0 } else { rng.between(-300_000, 300_000) as i32 };
+        site.ground[k] = if rng.percent(60) { 0 } else { rng.between(-steep, steep) as i32 };
         let surface = if level { 1_000_000 } else { rng.between(0, 1_000_000) };
-        site.state[k] = if rng.percent(dry) { 0 } else { (surface as i32 - site.ground[k]).max(0) };
+        site.state[k] = if rng.percent(dry) { 0 } else { (surface as i32 - site.ground[k]).clamp(0, 50_000_000) };
     }
     site
 }
@@ -46,8 +46,9 @@ fn partly_moving(rng: &mut Rng) -> Wild {
             _ => (),
         }
     }
+    let fastest = if rng.percent(20) { 20_000_000 } else { 900_000 };
     for place in moving {
-        site.state[place] = rng.between(-900_000, 900_000) as i32;
+        site.state[place] = rng.between(-fastest, fastest) as i32;
     }
     site
 }
@@ -67,23 +68,23 @@ fn still_sites() {
         let site = still(rng);
         given.count(step_and_run(rng, &site));
     });
-    given.assert_often("still sites", &[0], 1_000);
+    given.assert_often("still sites", &[0, 7], 200);
 }
 
 #[test]
 fn some_rows_move() {
     let mut given = Given::default();
-    trials("rows at rest", 8_000, |rng| {
+    trials("some rows move", 8_000, |rng| {
         let site = partly_moving(rng);
         given.count(step_and_run(rng, &site));
     });
-    given.assert_often("rows at rest", &[0], 4_000);
+    given.assert_some("some rows move", &[0, 4, 7], 200);
 }
 
-/// One face that moves, anywhere on the site, with all the others at rest: each place that a look at a row could miss.
+/// One face that moves, anywhere on the site, with all the others still: each place that a look at a row could miss.
 #[test]
 fn each_face_alone() {
-    for (columns, rows) in [(1, 2), (2, 1), (2, 2), (3, 3), (5, 4)] {
+    for (columns, rows) in [(1, 2), (2, 1), (2, 2), (3, 3), (5, 4), (1, 128), (2, 128), (128, 2)] {
         let rng = &mut Rng::new(u64::from(columns * 10 + rows));
         let mut site = Wild::empty(Card { columns, rows, dx: 1_000_000, dy: 1_000_000, dt: 20, steps: 2 });
         let cells = site.ground.len();
