@@ -25,7 +25,7 @@
  *     water_depth_text         1,000        1,000     1,000
  *
  * Small is a site whose state has at most 3,136 words, as with 32 columns and 32 rows; where it has at most 800, as with 16 and 16,
- * water_step takes 8,000. Refused means with 1, 2 or 3, and by the sheet reader with 9 too: the 4 to 7 of a step or a run take what
+ * water_step takes 9,000. Refused means with 1, 2 or 3, and by the sheet reader with 9 too: the 4 to 7 of a step or a run take what
  * the site takes.
  */
 #ifndef WATER_H

@@ -20,7 +20,7 @@
 //! | [`calls::depth_text`] | 1,000 | 1,000 | 1,000 |
 //!
 //! Small is a site whose state has at most 3,136 words, as with 32 columns and 32 rows; where it has at most 800, as with 16 and 16, a step
-//! takes 8,000. Refused means with `Card`, `Length` or `Value`, and by the sheet reader with `Sheet` too: the later refusals of a step or a
+//! takes 9,000. Refused means with `Card`, `Length` or `Value`, and by the sheet reader with `Sheet` too: the later refusals of a step or a
 //! run take what the site takes. A [`Site`] takes as much as the calls that it makes.
 //!
 //! # The archive

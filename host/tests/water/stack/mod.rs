@@ -41,11 +41,11 @@ fn header(name: &str) -> Named {
 fn step_of_800_words() -> usize {
     for page in [include_str!("../../../../include/water.h"), include_str!("../../../src/lib.rs")] {
         assert!(
-            page.contains("at most 800, as with 16 and 16") && page.contains("takes 8,000."),
+            page.contains("at most 800, as with 16 and 16") && page.contains("takes 9,000."),
             "both pages name a step of 800 words"
         );
     }
-    8_000
+    9_000
 }
 
 // One case: what it takes is printed and held to what is named, and it answers so, on its own stack and in a thread.

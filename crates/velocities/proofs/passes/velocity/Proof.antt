@@ -1,16 +1,13 @@
 -- `velocity`: 0 on a wall; any other face has a cell behind it, and all the numbers around it are in their ranges, be they eighteen or, in a still row, four.
-use mathlib.Core.Path.{_≡_, _∙_, sym, subst}
+use mathlib.Core.Path.{_≡_, _∙_, sym}
 use mathlib.Core.Bool.{false}
 use borrow.Author.Needs.{needs}
 use mir.Facts.{toZ-ofZ}
-use Rattle.momentum.specs.Fits.{FaceFits}
 use Rattle.layout.specs.Ways.{isWall}
 use Rattle.layout.proofs.Pointing.{beside}
-use Rattle.transfers.proofs.Sites.{time, side-fits}
 use Rattle.around.specs.Faces.{AtFace}
-use Rattle.around.proofs.Flows.{sound-of}
 use Rattle.around.proofs.Ranges.{face-fits, still-place, still-fits}
-use Rattle.velocities.proofs.Velocities.{new-is, at-face, inner-is, still-is}
+use Rattle.velocities.proofs.Velocities.{new-is, in-velocity, at-face, inner-is, still-is}
 use Rattle.velocities.proofs.passes.velocity.Statement.{statement}
 use Rattle.velocities.proofs.passes.velocity.Tie as tie
 
@@ -47,12 +44,7 @@ side-requires c κs = search needs
 new-velocity-requires : tie.Need-new-velocity-requires
 new-velocity-requires c κs =
     let b = c .before .before .before in
-    let sound = sound-of (start b .pre .flowing) in
-    record {
-      face = subst FaceFits (sym (c .before .still-face .ensures)) (still-fits (inner b));
-      time = time sound;
-      side = rw (c .side .ensures) (side-fits sound _);
-    }
+    in-velocity (start b .pre .flowing) _ (still-fits (inner b)) (c .before .still-face .ensures) (c .side .ensures)
 
 returns-2 : tie.Need-returns-2
 returns-2 c =
@@ -76,12 +68,7 @@ side-requires-2 c κs = search needs
 new-velocity-requires-2 : tie.Need-new-velocity-requires-2
 new-velocity-requires-2 c κs =
     let b = c .before .before .before in
-    let sound = sound-of (start b .pre .flowing) in
-    record {
-      face = subst FaceFits (sym (c .before .face .ensures)) (face-fits (inner b));
-      time = time sound;
-      side = rw (c .side2 .ensures) (side-fits sound _);
-    }
+    in-velocity (start b .pre .flowing) _ (face-fits (inner b)) (c .before .face .ensures) (c .side2 .ensures)
 
 returns-3 : tie.Need-returns-3
 returns-3 c =
