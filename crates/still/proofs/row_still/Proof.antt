@@ -38,7 +38,7 @@ face-still-requires-2 : tie.Need-face-still-requires-2 Inv-loop μ-loop
 face-still-requires-2 c κs =
     let w = c .before .before .before .before in
     let p = w .before .pre in
-    record { card = p .card; long = p .long; face = record { column = rw (w .wide .ensures) at (c .loop-test .taken); row = p .row } }
+    record { card = p .card; long = p .long; face = record { column = omega (arith, w .wide .ensures); row = p .row } }
 
 add-i : tie.Need-add-i Inv-loop μ-loop
 add-i c = omega arith
@@ -47,7 +47,7 @@ loop-less : tie.Need-loop-less Inv-loop μ-loop
 loop-less c = omega arith
 
 loop-again : tie.Need-loop-again Inv-loop μ-loop
-loop-again c = gather-more (c .before .before .loop .inv) (c .before .loop-test .taken) (c .face-still2 .ensures)
+loop-again c = gather-more (c .before .before .loop .inv) (omega arith) (c .face-still2 .ensures)
 
 returns-2 : tie.Need-returns-2 Inv-loop μ-loop
 unfolding rowStill
