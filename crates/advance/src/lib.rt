@@ -36,7 +36,7 @@ fn move_on(
     requires { ⌜ NextRoom card (now ground) (now state) (now tide) (now marks) (now next) ⌝ }
     ensures { λ r. ⌜ Advanced card (now (ground .entry)) (now (state .entry)) r (now (next .exit)) ⌝ }
 {
-    if !velocities::shares::shares_fit(card, ground, state, tide, marks) {
+    if !shares::shares_fit(card, ground, state, tide, marks) {
         return 6;
     }
     if !fill_next(card, ground, state, tide, marks, next) {

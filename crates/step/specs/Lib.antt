@@ -1,1 +1,1 @@
-pub mod Draft
+pub mod Held

@@ -4,26 +4,8 @@ ghost use mathlib.Core.Bool.{cond};
 ghost use lib.Dec.{leb};
 ghost use Rattle.rules.specs.Contracts.{StepContract};
 ghost use Rattle.laws.specs.Facts.{SoundWith};
-ghost use Rattle.step.specs.Draft.{Drafting, Held};
+ghost use Rattle.step.specs.Held.{Held};
 use rules::Card;
-
-// One step of a sound site, worked out in the draft, so that a refused step leaves the next state as it was lent.
-fn step_by_draft(
-    card: Card,
-    ground: &[i32],
-    state: &[i32],
-    tide: &mut [i32],
-    draft: &mut [i32],
-    next: &mut [i32],
-) -> u32
-    requires { ⌜ Drafting card (now ground) (now state) (now tide) (now draft) (now next) ⌝ }
-    ensures { λ r. ⌜ StepContract card (now (ground .entry)) (now (state .entry)) (now (next .entry)) r (now (next .exit)) ⌝ }
-{
-    let n = next.len();
-    let number = advance::advance(card, ground, state, &mut tide[..n], &mut draft[..n]);
-    lists::renew(next, draft, number);
-    number
-}
 
 // A step on the shortest lists, which hold any site of at most 16×16 cells.
 fn smallest_step(card: Card, ground: &[i32], state: &[i32], next: &mut [i32]) -> u32
@@ -32,7 +14,7 @@ fn smallest_step(card: Card, ground: &[i32], state: &[i32], next: &mut [i32]) ->
 {
     let mut tide = lists::shortest();
     let mut draft = lists::shortest();
-    step_by_draft(card, ground, state, &mut tide, &mut draft, next)
+    draft::step_by_draft(card, ground, state, &mut tide, &mut draft, next)
 }
 
 // A step on short lists, which hold any site of at most 32×32 cells.
@@ -42,7 +24,7 @@ fn small_step(card: Card, ground: &[i32], state: &[i32], next: &mut [i32]) -> u3
 {
     let mut tide = lists::short();
     let mut draft = lists::short();
-    step_by_draft(card, ground, state, &mut tide, &mut draft, next)
+    draft::step_by_draft(card, ground, state, &mut tide, &mut draft, next)
 }
 
 // A step on lists that hold any site.
@@ -52,7 +34,7 @@ fn large_step(card: Card, ground: &[i32], state: &[i32], next: &mut [i32]) -> u3
 {
     let mut tide = lists::longest();
     let mut draft = lists::longest();
-    step_by_draft(card, ground, state, &mut tide, &mut draft, next)
+    draft::step_by_draft(card, ground, state, &mut tide, &mut draft, next)
 }
 
 // The next larger room.

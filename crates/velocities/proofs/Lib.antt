@@ -1,3 +1,2 @@
 pub mod Speeds
 pub mod Velocities
-pub mod Still

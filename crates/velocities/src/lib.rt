@@ -1,3 +1,2 @@
-// The second half of a step, the balance of momentum: the own share of each inner face, and the new velocities.
+// The second half of a step, the balance of momentum: the new velocities.
 pub mod passes;
-pub mod shares;

@@ -5,7 +5,7 @@ use lib.ListN.{length}
 use borrow.Author.Needs.{needs}
 use borrow.Fn.Kinds.{In}
 use borrow.Fn.PlainCycle.{Measures, is, falls, and}
-use Rattle.step.proofs.Drafts.{room-few, room-grows}
+use Rattle.step.proofs.Rooms.{room-few, room-grows}
 use Rattle.step.proofs.step_within.Reads as own
 use Rattle.step.proofs.step_within.Kinds as kinds
 use Rattle.step.proofs.more_room.Reads as more

@@ -2,7 +2,7 @@
 use mathlib.Core.Path.{sym, _∙_}
 use borrow.Author.Needs.{needs}
 use Rattle.laws.specs.Facts.{check-with-sound}
-use Rattle.step.proofs.Drafts.{refused-early}
+use Rattle.step.proofs.Rooms.{refused-early}
 use Rattle.step.proofs.step.Statement.{statement}
 use Rattle.step.proofs.step.Tie as tie
 

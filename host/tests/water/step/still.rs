@@ -64,7 +64,7 @@ fn step_and_run(rng: &mut Rng, site: &Wild) -> u32 {
 #[test]
 fn still_sites() {
     let mut given = Given::default();
-    trials("still sites", 3_000, |rng| {
+    trials("still sites", 1_500, |rng| {
         let site = still(rng);
         given.count(step_and_run(rng, &site));
     });
@@ -74,7 +74,7 @@ fn still_sites() {
 #[test]
 fn some_rows_move() {
     let mut given = Given::default();
-    trials("some rows move", 8_000, |rng| {
+    trials("some rows move", 4_000, |rng| {
         let site = partly_moving(rng);
         given.count(step_and_run(rng, &site));
     });
@@ -90,7 +90,7 @@ fn each_face_alone() {
         let cells = site.ground.len();
         site.state[..cells].fill(500_000);
         for place in site.inner_faces() {
-            for velocity in [-1_000_000, -1, 1, 1_000_000] {
+            for velocity in [-1_000_000, 1] {
                 site.state[place] = velocity;
                 assert_eq!(step_and_run(rng, &site), 0);
             }

@@ -12,7 +12,7 @@ use Rattle.layout.proofs.Pointing.{Cell, near-in, back-again}
 use Rattle.still.specs.Rows.{CellsStill, BothStill}
 use Rattle.around.specs.Faces.{AtFace}
 use Rattle.around.proofs.Still.{still-share}
-use Rattle.velocities.specs.Shares.{shareFits}
+use Rattle.shares.specs.Own.{shareFits}
 
 -- a row of cells has a row of faces at its near side
 pub near-side : {c : Card} (east : Bool) {j : ℕ} → Ranges c → j < c .rows → j < high c east

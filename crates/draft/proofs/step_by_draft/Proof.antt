@@ -1,9 +1,9 @@
 -- `step_by_draft`: the step is worked out in the fronts of tide and draft, and the next state is renewed only where the number is 0.
 use mathlib.Core.Path.{sym}
 use borrow.Author.Needs.{needs}
-use Rattle.step.proofs.Drafts.{tide-part, draft-part, state-room, step-room, front, answered}
-use Rattle.step.proofs.step_by_draft.Statement.{statement}
-use Rattle.step.proofs.step_by_draft.Tie as tie
+use Rattle.draft.proofs.Drafts.{tide-part, draft-part, state-room, step-room, front, answered}
+use Rattle.draft.proofs.step_by_draft.Statement.{statement}
+use Rattle.draft.proofs.step_by_draft.Tie as tie
 
 slice-relend-prefix-advance : tie.Need-slice-relend-prefix-advance
 slice-relend-prefix-advance c = search needs

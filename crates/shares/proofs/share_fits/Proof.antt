@@ -7,8 +7,8 @@ use mir.Facts.{toZ-ofZ}
 use Rattle.rules.specs.Step.{ownShare}
 use Rattle.momentum.specs.Fits.{FaceFits}
 use Rattle.around.proofs.Ranges.{face-fits}
-use Rattle.velocities.proofs.shares.share_fits.Statement.{statement}
-use Rattle.velocities.proofs.shares.share_fits.Tie as tie
+use Rattle.shares.proofs.share_fits.Statement.{statement}
+use Rattle.shares.proofs.share_fits.Tie as tie
 
 face-requires : tie.Need-face-requires
 face-requires c κs = search needs

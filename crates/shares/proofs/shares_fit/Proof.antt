@@ -5,8 +5,8 @@ use borrow.Author.Tests.{not-true, not-false}
 use Rattle.rules.specs.Step.{sharesFit}
 use Rattle.layout.specs.Ways.{back}
 use Rattle.around.specs.Faces.{innerFace}
-use Rattle.velocities.proofs.shares.shares_fit.Statement.{statement}
-use Rattle.velocities.proofs.shares.shares_fit.Tie as tie
+use Rattle.shares.proofs.shares_fit.Statement.{statement}
+use Rattle.shares.proofs.shares_fit.Tie as tie
 
 look-requires : tie.Need-look-requires
 look-requires c κs = search needs

@@ -10,7 +10,7 @@ ghost use Rattle.rules.specs.Site.{readGround, readState};
 ghost use Rattle.rules.specs.Step.{sharesFit};
 ghost use Rattle.layout.specs.Ways as Ways;
 ghost use Rattle.around.specs.Faces.{AtFace};
-ghost use Rattle.velocities.specs.Shares.{shareFits, MarkedFlow};
+ghost use Rattle.shares.specs.Own.{shareFits, MarkedFlow};
 
 // Whether the own share of the inner face of which (i, j) is cell K is 0 or more.
 fn share_fits(

@@ -1,10 +1,8 @@
--- What a sound site gives a step that works in a draft, and each answer of the public step.
+-- What a sound site gives a step that works in a draft, and its answer: 0 and the next state, or 4 to 7 and the next state as lent.
 use mathlib.Core.Path.{_≡_, _∙_, sym, ap}
-use mathlib.Core.Bool.{Bool, true, false, cond}
 use mathlib.Core.List.{List, _++_}
-use Prim.Native.Nat.{ℕ, _≤_, _<_}
+use Prim.Native.Nat.{ℕ, _≤_}
 use native.Mathlib.Omega.{arith}
-use lib.Dec.{T, leb, leb→le}
 use lib.IntN.{ℤ}
 use lib.ListN.{length, take, drop}
 use lib.Seq.{length-take-le, take-at}
@@ -14,24 +12,10 @@ use Rattle.rules.specs.Step.{stepNumber, nextState}
 use Rattle.rules.specs.Calls.{stepAnswer, stepNext}
 use Rattle.rules.specs.Contracts.{StepContract}
 use Rattle.laws.specs.Facts.{SoundWith, sound-facts, sound-check-with}
-use Rattle.laws.specs.Outcomes.{first-refused, first-passed, if-refused, if-same}
+use Rattle.laws.specs.Outcomes.{first-passed, if-same}
 use Rattle.lists.specs.Renewed.{renewed}
 use Rattle.advance.specs.Advance.{StepRoom, Advanced}
-use Rattle.step.specs.Draft.{Drafting}
-
--- ---- a sound site
-
--- no state is longer than the longest
-pub room-few : (c : Card) (g s n : List ℤ) → SoundWith c g s n → length n ≤ 49408
-room-few c g s n w = omega (arith, w .long, sound-facts c g s (w .sound) .card .state-high)
-
--- where a state is longer than the room, the next larger room is larger
-pub room-grows : (room : ℕ) {long : ℕ} → room < long → long ≤ 49408 → room < cond (leb room 800) 3136 49408
-room-grows room {long} h most = pick (leb room 800) (leb→le room 800)
-  where
-    pick : (b : Bool) → (T b → room ≤ 800) → room < cond b 3136 49408
-    pick true f = let few = f tt in omega arith
-    pick false f = omega arith
+use Rattle.draft.specs.Draft.{Drafting}
 
 module _ {c : Card} {g s t d n : List ℤ} (drafting : Drafting c g s t d n) where
   room-long : length n ≡ stateLength c
@@ -57,18 +41,10 @@ module _ {c : Card} {g s t d n : List ℤ} (drafting : Drafting c g s t d n) whe
       let whole : take (length n) (made ++ drop (length n) d) ≡ made = take-at made (drop (length n) d) (length n) (long ∙ draft-part) in
       record { number = a .number; state = λ z. whole ∙ a .state z }
 
--- ---- the answer where the checks are passed: 0 and the next state, or 4 to 7 and the next state as lent
+-- ---- the answer
 
 pub answered : {c : Card} {g s n : List ℤ} → SoundWith c g s n → {r : ℕ} (list : List ℤ) {m : List ℤ} → m ≡ renewed r list n → Advanced c g s r (take (length n) list) → StepContract c g s n r m
 unfolding stepAnswer stepNext renewed
 answered {c} {g} {s} {n} site {r} list {m} is a =
     let k : r ≡ stepAnswer c g s n = a .number ∙ sym (first-passed (checkWith c g s (length n)) (stepNumber c g s) (sound-check-with c g s n site)) in
     record { answer = k; next-exit = is ∙ if-same r n (a .state) ∙ ap (λ (x : ℕ). ifDone x (nextState c g s) n) k }
-
--- ---- 1 to 3: the next state as lent
-
-pub refused-early : {c : Card} {g s n : List ℤ} {r : ℕ} → r ≡ checkWith c g s (length n) → (r ≡ 0 → ⊥) → StepContract c g s n r n
-unfolding stepNext stepAnswer
-refused-early {c} {g} {s} {n} {r} e h =
-    let k : r ≡ stepAnswer c g s n = e ∙ sym (first-refused (checkWith c g s (length n)) (stepNumber c g s) (λ z. h (e ∙ z))) in
-    record { answer = k; next-exit = sym (if-refused (stepAnswer c g s n) (nextState c g s) n (λ z. h (k ∙ z))) }

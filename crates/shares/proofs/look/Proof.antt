@@ -7,15 +7,15 @@ use native.Mathlib.Omega.{arith}
 use borrow.Author.Needs.{needs}
 use Rattle.laws.specs.Gather.{RowsGathered, CellsGathered, rows-none, row-none, row-more, rows-more, rows-all}
 use Rattle.transfers.proofs.Sites.{facts}
-use Rattle.velocities.specs.Shares.{shareFits}
+use Rattle.shares.specs.Own.{shareFits}
 use Rattle.layout.specs.Ways.{high, forth}
 use Rattle.still.proofs.Rows.{both-rows}
 use Rattle.around.specs.Faces.{AtFace}
 use Rattle.around.proofs.Around.{forth-more, forth-back}
 use Rattle.around.proofs.Flows.{sound-of}
-use Rattle.velocities.proofs.Still.{near-side, fits-still}
-use Rattle.velocities.proofs.shares.look.Statement.{statement}
-use Rattle.velocities.proofs.shares.look.Tie as tie
+use Rattle.shares.proofs.Still.{near-side, fits-still}
+use Rattle.shares.proofs.look.Statement.{statement}
+use Rattle.shares.proofs.look.Tie as tie
 
 abbrev Inv-loop2 : tie.InvT-loop2
 Inv-loop2 card east ground state tide marks columns rows fit₀ j still i₀ fit i = CellsGathered columns (shareFits card ground state east) j fit i
