@@ -64,7 +64,7 @@ fn step_and_run(rng: &mut Rng, site: &Wild) -> u32 {
 #[test]
 fn still_sites() {
     let mut given = Given::default();
-    trials("still sites", 1_500, |rng| {
+    trials("still sites", 800, |rng| {
         let site = still(rng);
         given.count(step_and_run(rng, &site));
     });
@@ -74,7 +74,7 @@ fn still_sites() {
 #[test]
 fn some_rows_move() {
     let mut given = Given::default();
-    trials("some rows move", 4_000, |rng| {
+    trials("some rows move", 2_000, |rng| {
         let site = partly_moving(rng);
         given.count(step_and_run(rng, &site));
     });
