@@ -1,4 +1,4 @@
-// One step of a sound site with a tide and a draft lent, for the lists that a host lends.
+// One step of a sound site, in a tide and a draft that are lent to it: all of the next state is handed over, or nothing.
 ghost use Rattle.rules.specs.Contracts.{StepContract};
 ghost use Rattle.draft.specs.Draft.{Drafting};
 use rules::Card;
