@@ -1,4 +1,4 @@
--- Document 01, "Numbers to check by": the starred cases, in a single table under a single claim, proved by computation.
+-- Document 01, "Numbers to check by": the starred cases, in a single table under a single claim, proved by computation; and the case of document 02's [9].
 use Prim.Native.Nat.{ℕ}
 use mathlib.Core.Path.{_≡_, refl}
 use mathlib.Core.List.{List, [], _∷_}
@@ -7,7 +7,7 @@ use lib.IntN.{ℤ, pos, negℤ}
 use Rattle.rules.specs.declared.Card.{Card}
 use Rattle.rules.specs.Grid.{tabulate, grid, all, allAt, greatest}
 use Rattle.rules.specs.Site.{readGround, readState, writeState, stateLength, sizesFit, sidesFit, timesFit, cardFits, lengthsFit, groundsFit, heightsFit, velocitiesFit, wallsStill, valuesFit, firstOf, checkAlso, checkWith, firstRefusal, ifDone}
-use Rattle.rules.specs.Step.{walled, transfer, eastTransfer, northTransfer, withinLimit, newHeight, after, before, eastFace, northFace, outAhead, outBehind, outAbove, outBelow, positive, ownShare, brought, carried, rise, slope, newVelocity, newEast, newNorth, next, limitKept, newHeightsFit, sharesFit, newVelocitiesFit, answer, number, stepNumberBy, nextStateBy, stepNumber, nextState}
+use Rattle.rules.specs.Step.{walled, transfer, eastTransfer, northTransfer, forward, backward, withinLimit, newHeight, after, before, eastFace, northFace, outAhead, outBehind, outAbove, outBelow, positive, ownShare, brought, carried, rise, slope, newVelocity, newEast, newNorth, next, limitKept, newHeightsFit, sharesFit, newVelocitiesFit, answer, number, stepNumberBy, nextStateBy, stepNumber, nextState}
 use Rattle.rules.specs.Text.{digitsOf, decimal, heightText, depthText}
 use Rattle.rules.specs.Calls.{stepAnswer, stepNext}
 
@@ -23,9 +23,12 @@ flat n = replicate n (pos 0)
 unfoldable pub two : (west east middle : ℤ) → List ℤ
 two a b u = a ∷ b ∷ pos 0 ∷ u ∷ pos 0 ∷ flat 4
 
--- a 3×1 state: three heights, still
+-- a 3×1 state: three heights, four eastward velocities of which the inner two may move, six northward ones; and one that is still
+unfoldable pub passing : (west middle east first second : ℤ) → List ℤ
+passing a b c u v = a ∷ b ∷ c ∷ pos 0 ∷ u ∷ v ∷ pos 0 ∷ flat 6
+
 unfoldable pub three : (west middle east : ℤ) → List ℤ
-three a b c = a ∷ b ∷ c ∷ flat 10
+three a b c = passing a b c (pos 0) (pos 0)
 
 -- a row of the table, where the list that is lent for the next state holds the state itself: the step is accepted, and leaves this state there
 abbrev pub Steps : (columns : ℕ) (ground state then : List ℤ) → Type 0
@@ -42,6 +45,9 @@ pub record Starred : Type 0 where
   -- the middle at 10,000,000 empties the west cell; one more breaks the step limit
   pub emptied : Steps 2 (flat 2) (two (pos 2000000) (pos 1000000) (pos 10000000)) (two (pos 0) (pos 3000000) (pos 391338))
   pub over-limit : Refuses 2 (flat 2) (two (pos 2000000) (pos 1000000) (pos 10000001)) 4
+  -- document 02, [9]: water passes through the middle cell, both inner faces at 6,000,000
+  pub passed-through :
+    Steps 3 (flat 3) (passing (pos 1000000) (pos 1000000) (pos 1000000) (pos 6000000) (pos 6000000)) (passing (pos 400000) (pos 1000000) (pos 1600000) (pos 2840172) (pos 5411601))
   -- from height 3 at 5,000,000: 1; at -5,000,000: -1, not -2; the water comes from K, or from L, and the other cell is dry
   pub transfer-east : transfer 100 1000000 (pos 3) (pos 0) (pos 5000000) ≡ pos 1
   pub transfer-west : transfer 100 1000000 (pos 0) (pos 3) (negℤ (pos 5000000)) ≡ negℤ (pos 1)
@@ -56,12 +62,13 @@ pub record Starred : Type 0 where
   pub text-15000 : depthText (pos 15000) ≡ 50 ∷ 32 ∷ 99 ∷ 109 ∷ []
 
 pub starred : Starred
-unfolding oneRow flat two three tabulate grid all allAt greatest readGround readState writeState stateLength sizesFit sidesFit timesFit cardFits lengthsFit groundsFit heightsFit velocitiesFit wallsStill valuesFit firstOf checkAlso checkWith firstRefusal ifDone walled transfer eastTransfer northTransfer withinLimit newHeight after before eastFace northFace outAhead outBehind outAbove outBelow positive ownShare brought carried rise slope newVelocity newEast newNorth next limitKept newHeightsFit sharesFit newVelocitiesFit answer number stepNumberBy nextStateBy stepNumber nextState digitsOf decimal heightText depthText stepAnswer stepNext
+unfolding oneRow flat two passing three tabulate grid all allAt greatest readGround readState writeState stateLength sizesFit sidesFit timesFit cardFits lengthsFit groundsFit heightsFit velocitiesFit wallsStill valuesFit firstOf checkAlso checkWith firstRefusal ifDone walled transfer eastTransfer northTransfer forward backward withinLimit newHeight after before eastFace northFace outAhead outBehind outAbove outBelow positive ownShare brought carried rise slope newVelocity newEast newNorth next limitKept newHeightsFit sharesFit newVelocitiesFit answer number stepNumberBy nextStateBy stepNumber nextState digitsOf decimal heightText depthText stepAnswer stepNext
 starred = record {
   first-step = (refl, refl);
   second-step = (refl, refl);
   emptied = (refl, refl);
   over-limit = (refl, refl);
+  passed-through = (refl, refl);
   transfer-east = refl;
   transfer-west = refl;
   still-pond = (refl, refl);

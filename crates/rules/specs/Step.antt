@@ -32,11 +32,22 @@ eastTransfer c w i j = walled (c .columns) (λ k. transfer (c .dt) (c .dx) (w .h
 unfoldable pub northTransfer : Card → Water → Field
 northTransfer c w i j = walled (c .rows) (λ k. transfer (c .dt) (c .dy) (w .height i k) (w .height i (suc k)) (w .north i (suc k))) j
 
--- ---- Step limit, (18) multiplied out: dt · ((|west| + |east|) · dy + (|south| + |north|) · dx) ≤ 1000 · dx · dy
+-- ---- Step limit, (18) multiplied out, a face counting only in the cell that its velocity points out of (document 02, [9]):
+-- dt · ((west, if it points west, plus east, if it points east) · dy + (south, if it points south, plus north, if it points north) · dx) ≤ 1000 · dx · dy
+
+-- the size of a velocity that points east or north, else 0
+unfoldable pub forward : ℤ → ℕ
+forward (pos n) = n
+forward (negsuc n) = 0
+
+-- the size of one that points west or south, else 0
+unfoldable pub backward : ℤ → ℕ
+backward (pos n) = 0
+backward (negsuc n) = suc n
 
 unfoldable pub withinLimit : Card → Water → ℕ → ℕ → Bool
 withinLimit c w i j =
-    leb (c .dt * ((natAbs (w .east i j) + natAbs (w .east (suc i) j)) * c .dy + (natAbs (w .north i j) + natAbs (w .north i (suc j))) * c .dx))
+    leb (c .dt * ((backward (w .east i j) + forward (w .east (suc i) j)) * c .dy + (backward (w .north i j) + forward (w .north i (suc j))) * c .dx))
     (1000 * (c .dx * c .dy))
 
 -- ---- New height, (7b): the old one, less T out, plus T in, over four faces
