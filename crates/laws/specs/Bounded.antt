@@ -1,27 +1,67 @@
--- Under the step limit a transfer is at most a height, and a new height is at least 0: what a step writes fits a word.
-use Prim.Native.Nat.{ℕ, zero, suc, _+_, _*_, _/_, _≤_, _<_, zero-le}
-use native.Mathlib.Nat.{le-trans, le-of-eq}
+-- What a step writes fits a word, from the law of the step limit alone (`leaves-at-most`): a new height is at least 0, and a transfer at most a height.
+use Prim.Native.Nat.{ℕ, zero, suc, _+_, _-_, _≤_, _<_, zero-le}
+use mathlib.Core.Path.{_≡_, refl, ap, _∙_, subst}
+use native.Mathlib.Nat.{le-trans}
 use native.Mathlib.Omega.{arith}
-use lib.Dec.{T, leb→le}
-use lib.IntN.{ℤ, pos, negsuc, natAbs}
+use lib.Dec.{T, le→leb}
+use lib.IntN.{ℤ, pos, negsuc, negℤ, natAbs, _+ℤ_, _-ℤ_, +ℤ-negℤ-cancel}
 use lib.Signed.{leZ}
 use Rattle.rules.specs.declared.Card.{Card}
 use Rattle.rules.specs.Site.{Water, heightFits, heightsFit}
-use Rattle.rules.specs.Step.{transfer, eastTransfer, northTransfer, withinLimit, limitKept, newHeight}
+use Rattle.rules.specs.Step.{eastTransfer, northTransfer, forward, backward, withinLimit, limitKept, newHeight}
 use Rattle.laws.specs.Tests.{and-left, and-right}
-use Rattle.laws.specs.Numbers.{abs-neg}
+use Rattle.laws.specs.Numbers.{leZ-trans, leZ-refl, leZ-add, leZ-neg}
 use Rattle.laws.specs.Sizes.{Within, within-order}
 use Rattle.laws.specs.Grids.{allAt-at}
-use Rattle.laws.specs.Walls.{everywhere}
-use Rattle.laws.specs.Limit.{leaves, sends, not-below}
+use Rattle.laws.specs.Walls.{on-inner, everywhere}
+use Rattle.laws.specs.Outward.{within-ways, at-most-forward, at-least-backward}
+use Rattle.laws.specs.Limit.{leaving, leaves-at-most}
 
--- a transfer is at most what K and L can send over the face
-transfer-within : {N : ℕ} (dt d : ℕ) (hK hL u : ℤ) → natAbs hK * natAbs u * dt / (1000 * d) ≤ N → natAbs hL * natAbs u * dt / (1000 * d) ≤ N
-    → Within N (transfer dt d hK hL u)
-unfolding transfer
-transfer-within dt d hK hL (pos zero) k l = record { size = zero-le }
-transfer-within dt d hK hL (pos (suc n)) k l = record { size = k }
-transfer-within dt d hK hL (negsuc n) k l = record { size = le-trans (le-of-eq (abs-neg (pos (natAbs hL * suc n * dt / (1000 * d))))) l }
+-- ---- no new height is below 0
+
+left-over : (r e d b a : ℕ) → pos (r + e + d + b + a) -ℤ pos a -ℤ pos b -ℤ pos d -ℤ pos e ≡ pos r
+left-over r e d b a =
+    ap (λ (x : ℤ). x -ℤ pos b -ℤ pos d -ℤ pos e) (+ℤ-negℤ-cancel (pos (r + e + d + b)) (pos a))
+    ∙ ap (λ (x : ℤ). x -ℤ pos d -ℤ pos e) (+ℤ-negℤ-cancel (pos (r + e + d)) (pos b))
+    ∙ ap (λ (x : ℤ). x -ℤ pos e) (+ℤ-negℤ-cancel (pos (r + e)) (pos d))
+    ∙ +ℤ-negℤ-cancel (pos r) (pos e)
+
+add-back : (h t a b d e : ℕ) → t ≡ a + b + d + e → t ≤ h → h ≡ (h - t) + e + d + b + a
+add-back h t a b d e p l = omega arith
+
+at-least : (z : ℤ) → T (leZ (pos 0) z) → T (leZ (pos (natAbs z)) z)
+at-least (pos n) t = leZ-refl (pos n)
+at-least (negsuc n) t = absurd t
+
+not-below : (c : Card) (w : Water) (i j : ℕ) → 0 < c .dx → 0 < c .dy → T (leZ (pos 0) (w .height i j)) → T (withinLimit c w i j)
+    → T (leZ (pos 0) (newHeight c w i j))
+unfolding newHeight leaving
+not-below c w i j hx hy h l =
+    let z = w .height i j in
+    let tw = eastTransfer c w i j in
+    let te = eastTransfer c w (suc i) j in
+    let ts = northTransfer c w i j in
+    let tn = northTransfer c w i (suc j) in
+    let H = natAbs z in
+    let qw = backward tw in
+    let qe = forward te in
+    let qs = backward ts in
+    let qn = forward tn in
+    let k : qw + qe + qs + qn ≤ H = leaves-at-most c w i j hx hy l in
+    let r = H - (qw + qe + qs + qn) in
+    let e : pos H -ℤ pos qw -ℤ pos qe -ℤ pos qs -ℤ pos qn ≡ pos r =
+    ap (λ (x : ℕ). pos x -ℤ pos qw -ℤ pos qe -ℤ pos qs -ℤ pos qn) (add-back H (qw + qe + qs + qn) qw qe qs qn refl k) ∙ left-over r qn qs qe qw in
+    leZ-trans (pos 0) (pos H -ℤ pos qw -ℤ pos qe -ℤ pos qs -ℤ pos qn) (z +ℤ tw -ℤ te +ℤ ts -ℤ tn)
+    (rw e (le→leb 0 r zero-le))
+    (leZ-add (pos H -ℤ pos qw -ℤ pos qe -ℤ pos qs) (z +ℤ tw -ℤ te +ℤ ts) (negℤ (pos qn)) (negℤ tn)
+    (leZ-add (pos H -ℤ pos qw -ℤ pos qe) (z +ℤ tw -ℤ te) (negℤ (pos qs)) ts
+    (leZ-add (pos H -ℤ pos qw) (z +ℤ tw) (negℤ (pos qe)) (negℤ te)
+    (leZ-add (pos H) z (negℤ (pos qw)) tw (at-least z h) (at-least-backward tw))
+    (leZ-neg te (pos qe) (at-most-forward te)))
+    (at-least-backward ts))
+    (leZ-neg tn (pos qn) (at-most-forward tn)))
+
+-- ---- a site whose heights fit and which keeps the limit
 
 module _ (c : Card) (w : Water) (sideX : 0 < c .dx) (sideY : 0 < c .dy) (depths : T (heightsFit c w)) (limit : T (limitKept c w)) where
   height-fits : (i j : ℕ) → i < c .columns → j < c .rows → T (heightFits (w .height i j))
@@ -39,28 +79,26 @@ module _ (c : Card) (w : Water) (sideX : 0 < c .dx) (sideY : 0 < c .dy) (depths 
   unfolding limitKept
   within-limit i j hi hj = allAt-at (c .columns) (c .rows) (withinLimit c w) limit i j hi hj
 
-  -- the four together
-  all-sent : (i j : ℕ) → i < c .columns → j < c .rows
-      → sends c w i j (c .dx) (w .east i j) + sends c w i j (c .dx) (w .east (suc i) j) + sends c w i j (c .dy) (w .north i j) + sends c w i j (c .dy) (w .north i (suc j)) ≤ 50000000
-  unfolding withinLimit
-  all-sent i j hi hj =
-      le-trans
-      (leaves (natAbs (w .height i j)) (c .dt) (c .dx) (c .dy) (natAbs (w .east i j)) (natAbs (w .east (suc i) j)) (natAbs (w .north i j)) (natAbs (w .north i (suc j))) sideX sideY
-      (leb→le _ _ (within-limit i j hi hj)))
-      (old-within i j hi hj .size)
+  all-leaving : (i j : ℕ) → i < c .columns → j < c .rows → leaving c w i j ≤ 50000000
+  all-leaving i j hi hj = le-trans (leaves-at-most c w i j sideX sideY (within-limit i j hi hj)) (old-within i j hi hj .size)
 
+  -- what crosses a face leaves its K or its L
   pub east-within : (i j : ℕ) → j < c .rows → Within 50000000 (eastTransfer c w i j)
-  unfolding eastTransfer
+  unfolding eastTransfer leaving
   east-within i j hj =
       everywhere (c .columns) _ (λ k x. Within 50000000 x) (λ k. record { size = zero-le })
-      (λ k h. transfer-within (c .dt) (c .dx) (w .height k j) (w .height (suc k) j) (w .east (suc k) j) (omega (arith, all-sent k j (omega arith) hj)) (omega (arith, all-sent (suc k) j h hj)))
+      (λ k h.
+      subst (Within 50000000) (on-inner (c .columns) _ k h)
+      (within-ways (eastTransfer c w (suc k) j) (omega (arith, all-leaving k j (omega arith) hj)) (omega (arith, all-leaving (suc k) j h hj))))
       i
 
   pub north-within : (i j : ℕ) → i < c .columns → Within 50000000 (northTransfer c w i j)
-  unfolding northTransfer
+  unfolding northTransfer leaving
   north-within i j hi =
       everywhere (c .rows) _ (λ k x. Within 50000000 x) (λ k. record { size = zero-le })
-      (λ k h. transfer-within (c .dt) (c .dy) (w .height i k) (w .height i (suc k)) (w .north i (suc k)) (omega (arith, all-sent i k hi (omega arith))) (omega (arith, all-sent i (suc k) hi h)))
+      (λ k h.
+      subst (Within 50000000) (on-inner (c .rows) _ k h)
+      (within-ways (northTransfer c w i (suc k)) (omega (arith, all-leaving i k hi (omega arith))) (omega (arith, all-leaving i (suc k) hi h))))
       j
 
   pub new-low : (i j : ℕ) → i < c .columns → j < c .rows → T (leZ (pos 0) (newHeight c w i j))

@@ -13,12 +13,12 @@ use Rattle.rules.specs.declared.Card.{Card}
 use Rattle.rules.specs.Grid.{Field, all}
 use Rattle.rules.specs.Site.{Water, cells, stateLength, readGround, readState, writeState, isZero, groundsFit, heightsFit, velocitiesFit, wallsStill, valuesFit, lengthsFit, check}
 use Rattle.rules.specs.Step.{Rule, walled, newHeight, eastFace, northFace, newVelocity, newEast, newNorth, next, limitKept, newHeightsFit, sharesFit, newVelocitiesFit, number, stepNumberBy, nextStateBy, stepNumber, nextState}
-use Rattle.laws.specs.Tests.{true-of, to-T, and-both, and-left, four-of, of-four}
+use Rattle.laws.specs.Tests.{true-of, to-T, and-both, four-of, of-four}
 use Rattle.laws.specs.Grids.{all-intro, allAt-at, allAt-intro, all-same, allAt-same}
 use Rattle.laws.specs.States.{Alike, height-back, east-back, north-back, length-state}
 use Rattle.laws.specs.Checks.{accepted}
 use Rattle.laws.specs.Facts.{Sound, card-facts, length-facts, check-sound, sound-check}
-use Rattle.laws.specs.Limit.{not-below}
+use Rattle.laws.specs.Bounded.{new-low}
 use Rattle.laws.specs.Walls.{on-wall}
 
 -- ---- the values of the next state
@@ -55,13 +55,11 @@ module _ (rule : Rule) (c : Card) (g : Field) (w : Water) where
       (all-intro (c .columns) _ (λ i hi. rw (on-wall (c .rows) (λ k. rule (c .dt) (c .dy) (northFace c g w i k)) (c .rows) (le-refl (c .rows))) tt))
 
   depths-next : 0 < c .dx → 0 < c .dy → T (heightsFit c w) → T (limitKept c w) → T (newHeightsFit c w) → T (heightsFit c (next rule c g w))
-  unfolding heightsFit next limitKept newHeightsFit
+  unfolding heightsFit next newHeightsFit
   depths-next hx hy d l h =
       allAt-intro (c .columns) (c .rows) _ (λ i j hi hj.
       and-both (leZ (pos 0) (newHeight c w i j)) (leZ (newHeight c w i j) (pos 50000000))
-      (not-below c w i j hx hy
-      (and-left (leZ (pos 0) (w .height i j)) (leZ (w .height i j) (pos 50000000)) (allAt-at (c .columns) (c .rows) _ d i j hi hj))
-      (allAt-at (c .columns) (c .rows) _ l i j hi hj))
+      (new-low c w hx hy d l i j hi hj)
       (allAt-at (c .columns) (c .rows) _ h i j hi hj))
 
   next-values : 0 < c .dx → 0 < c .dy → T (valuesFit c g w) → number rule c g w ≡ 0 → T (valuesFit c g (next rule c g w))

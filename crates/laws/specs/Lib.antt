@@ -3,6 +3,7 @@ pub mod Numbers
 pub mod Grids
 pub mod States
 pub mod Checks
+pub mod Outward
 pub mod Limit
 pub mod Passes
 pub mod Looks

@@ -1,0 +1,50 @@
+-- A number by the way it points (`forward`, `backward`): turned round, and beside its size and its order. Of a velocity, and of what crosses a face.
+use Prim.Native.Nat.{ℕ, zero, suc, _≤_, zero-le}
+use mathlib.Core.Path.{_≡_, refl}
+use native.Mathlib.Nat.{le-refl}
+use lib.IntN.{ℤ, pos, negsuc, negℤ, natAbs}
+use lib.Signed.{leZ}
+use lib.Dec.{T, le→leb}
+use Rattle.rules.specs.Step.{forward, backward}
+use Rattle.laws.specs.Numbers.{leZ-refl}
+use Rattle.laws.specs.Sizes.{Within}
+
+-- turned round
+pub forward-neg : (z : ℤ) → forward (negℤ z) ≡ backward z
+unfolding forward backward
+forward-neg (pos zero) = refl
+forward-neg (pos (suc n)) = refl
+forward-neg (negsuc n) = refl
+
+pub backward-neg : (z : ℤ) → backward (negℤ z) ≡ forward z
+unfolding forward backward
+backward-neg (pos zero) = refl
+backward-neg (pos (suc n)) = refl
+backward-neg (negsuc n) = refl
+
+-- either is at most the size, and where both are at most N the size is
+pub forward-size : (z : ℤ) → forward z ≤ natAbs z
+unfolding forward
+forward-size (pos n) = le-refl n
+forward-size (negsuc n) = zero-le
+
+pub backward-size : (z : ℤ) → backward z ≤ natAbs z
+unfolding backward
+backward-size (pos n) = zero-le
+backward-size (negsuc n) = le-refl (suc n)
+
+pub within-ways : {N : ℕ} (z : ℤ) → forward z ≤ N → backward z ≤ N → Within N z
+unfolding forward backward
+within-ways (pos n) f b = record { size = f }
+within-ways (negsuc n) f b = record { size = b }
+
+-- a number lies between the two
+pub at-most-forward : (z : ℤ) → T (leZ z (pos (forward z)))
+unfolding forward
+at-most-forward (pos n) = leZ-refl (pos n)
+at-most-forward (negsuc n) = tt
+
+pub at-least-backward : (z : ℤ) → T (leZ (negℤ (pos (backward z))) z)
+unfolding backward
+at-least-backward (pos n) = le→leb 0 n zero-le
+at-least-backward (negsuc n) = leZ-refl (negsuc n)
