@@ -1,2 +1,3 @@
 pub mod Bounds
 pub mod Laws
+pub mod Counting

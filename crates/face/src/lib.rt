@@ -8,6 +8,7 @@ ghost use lib.Signed.{ltZ};
 ghost use lib.Dec.{leb};
 ghost use Rattle.rules.specs.Step as step;
 ghost use Rattle.face.specs.Ranges.{Speed, InTransfer, InLimit, InHeight};
+ghost use Rattle.face.specs.Counts.{counts};
 
 // ---- Transfer
 
@@ -41,15 +42,24 @@ fn size(v: i32) -> u64
     if v < 0 { (0 - v) as u64 } else { v as u64 }
 }
 
+// What a face counts in a cell's limit: its speed where its velocity points out of the cell, else nothing.
+fn counted(v: i32, out: bool) -> u64
+    requires { ⌜ Speed v ⌝ }
+    ensures { λ r. ⌜ r ≡ counts out v ⌝ }
+{
+    if out { size(v) } else { 0 }
+}
+
 // Whether a cell with these face velocities keeps the step limit.
 pub fn keeps_limit(west: i32, east: i32, south: i32, north: i32, dt: u32, dx: u32, dy: u32) -> bool
     requires { ⌜ InLimit west east south north dt dx dy ⌝ }
-    ensures { λ r. ⌜ r ≡ leb (dt * ((natAbs west + natAbs east) * dy + (natAbs south + natAbs north) * dx)) (1000 * (dx * dy)) ⌝ }
+    ensures { λ r. ⌜ r ≡ leb (dt * ((step.backward west + step.forward east) * dy + (step.backward south + step.forward north) * dx)) (1000 * (dx * dy)) ⌝ }
 {
     let x = dx as u64;
     let y = dy as u64;
-    let speed = (size(west) + size(east)) * y + (size(south) + size(north)) * x;
-    (dt as u64) * speed <= 1000 * (x * y)
+    let west_east = counted(west, west < 0) + counted(east, east > 0);
+    let south_north = counted(south, south < 0) + counted(north, north > 0);
+    (dt as u64) * (west_east * y + south_north * x) <= 1000 * (x * y)
 }
 
 // ---- New height

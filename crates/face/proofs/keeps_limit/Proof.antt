@@ -1,105 +1,129 @@
--- `keeps_limit`: four sizes, two sums, and products that fit.
-use Prim.Native.Nat.{_+_, _*_, _≤_}
-use mathlib.Core.Path.{_≡_, ap}
-use native.Mathlib.Nat.{add-comm, add-le-add, mul-le-mul}
+-- `keeps_limit`: what each face counts, two sums, and products that fit.
+use Prim.Native.Nat.{ℕ, _+_, _*_, _≤_}
+use mathlib.Core.Path.{_≡_, ap, _∙_}
+use mathlib.Core.Bool.{Bool}
+use native.Mathlib.Nat.{le-trans, le-of-eq, add-le-add, mul-le-mul}
 use native.Mathlib.Omega.{arith}
-use lib.IntN.{natAbs}
-use Rattle.laws.specs.Exact.{int, value, within}
+use borrow.Author.Needs.{needs}
+use lib.IntN.{ℤ, pos}
+use lib.Signed.{leZ, ltZ}
 use mir.Syntax.{w32}
 use mir.Val.{toZ, ofZ}
+use Rattle.rules.specs.Step.{forward, backward}
+use Rattle.laws.specs.Exact.{int, value, within}
+use Rattle.face.specs.Ranges.{Speed}
+use Rattle.face.specs.Counts.{counts}
+use Rattle.face.proofs.Counting.{counts-most, counts-backward, counts-not-forward, counts-forward, counts-not-backward}
 use Rattle.face.proofs.keeps_limit.Statement.{statement}
 use Rattle.face.proofs.keeps_limit.Tie as tie
 
--- the places: after the sizes along x, and after those along y
-abbrev start : tie.After-size2 → tie.Start
+-- the places: after what counts over west and east, and after what counts over south and north
+abbrev start : tie.After-counted2 → tie.Start
 start c = c .before .before
 
-abbrev half : tie.After-size4 → tie.After-size2
+abbrev half : tie.After-counted4 → tie.After-counted2
 half c = c .before .before
 
--- the four speeds, as they are read back from a local, lose nothing
-module _ (o : tie.Start) where
-  west : natAbs (toZ w32 (ofZ w32 (o .args .west))) ≡ natAbs (o .args .west)
-  west = ap natAbs (value (int {w = w32} (o .pre .west) tt))
+-- what a face counts: at most its speed, whatever was asked of it; and asked whether it points out (a still one may count as either), what the limit counts
+abbrev word : ℤ → ℤ
+word z = toZ w32 (ofZ w32 z)
 
-  east : natAbs (toZ w32 (ofZ w32 (o .args .east))) ≡ natAbs (o .args .east)
-  east = ap natAbs (value (int {w = w32} (o .pre .east) tt))
+module _ {v : ℤ} (fits : Speed v) where
+  most : (n : ℕ) (out : Bool) → n ≡ counts out (word v) → n ≤ 20000000
+  most n out e = le-trans (le-of-eq e) (le-trans (counts-most out (word v)) (within (int {w = w32} fits tt) .size))
 
-  south : natAbs (toZ w32 (ofZ w32 (o .args .south))) ≡ natAbs (o .args .south)
-  south = ap natAbs (value (int {w = w32} (o .pre .south) tt))
+  out-backward : counts (ltZ (word v) (pos 0)) (word v) ≡ backward v
+  out-backward = counts-backward (word v) ∙ ap backward (value (int {w = w32} fits tt))
 
-  north : natAbs (toZ w32 (ofZ w32 (o .args .north))) ≡ natAbs (o .args .north)
-  north = ap natAbs (value (int {w = w32} (o .pre .north) tt))
+  out-not-forward : counts (leZ (word v) (pos 0)) (word v) ≡ backward v
+  out-not-forward = counts-not-forward (word v) ∙ ap backward (value (int {w = w32} fits tt))
+
+  out-forward : counts (ltZ (pos 0) (word v)) (word v) ≡ forward v
+  out-forward = counts-forward (word v) ∙ ap forward (value (int {w = w32} fits tt))
+
+  out-not-backward : counts (leZ (pos 0) (word v)) (word v) ≡ forward v
+  out-not-backward = counts-not-backward (word v) ∙ ap forward (value (int {w = w32} fits tt))
+
+west : (c : tie.After-counted) → c .counted .result ≡ backward (c .before .args .west)
+west c = c .counted .ensures ∙ search (out-backward, out-not-forward)
+
+east : (c : tie.After-counted2) → c .counted2 .result ≡ forward (start c .args .east)
+east c = c .counted2 .ensures ∙ search (out-forward, out-not-backward)
+
+south : (c : tie.After-counted3) → c .counted3 .result ≡ backward (start (c .before) .args .south)
+south c = c .counted3 .ensures ∙ search (out-backward, out-not-forward)
+
+north : (c : tie.After-counted4) → c .counted4 .result ≡ forward (start (half c) .args .north)
+north c = c .counted4 .ensures ∙ search (out-forward, out-not-backward)
 
 -- bounds of the sums and the products
-both-x : (c : tie.After-size2) → c .before .size .result + c .size2 .result ≤ 40000000
-both-x c = let o = start c in omega (arith, c .before .size .ensures, c .size2 .ensures, west o, east o, o .pre .west .size, o .pre .east .size)
+west-east : (c : tie.After-counted2) → c .before .counted .result + c .counted2 .result ≤ 40000000
+west-east c = add-le-add (most (start c .pre .west) _ _ (c .before .counted .ensures)) (most (start c .pre .east) _ _ (c .counted2 .ensures))
 
-both-y : (c : tie.After-size4) → c .before .size3 .result + c .size4 .result ≤ 40000000
-both-y c = let o = start (half c) in omega (arith, c .before .size3 .ensures, c .size4 .ensures, south o, north o, o .pre .south .size, o .pre .north .size)
+south-north : (c : tie.After-counted4) → c .before .counted3 .result + c .counted4 .result ≤ 40000000
+south-north c = let o = start (half c) in add-le-add (most (o .pre .south) _ _ (c .before .counted3 .ensures)) (most (o .pre .north) _ _ (c .counted4 .ensures))
 
-by-x : (c : tie.After-size2) → (c .before .size .result + c .size2 .result) * start c .args .dy ≤ 40000000 * 20000000
-by-x c = mul-le-mul (both-x c) (start c .pre .sideY .high)
+by-y : (c : tie.After-counted4) → (half c .before .counted .result + half c .counted2 .result) * start (half c) .args .dy ≤ 40000000 * 20000000
+by-y c = mul-le-mul (west-east (half c)) (start (half c) .pre .sideY .high)
 
-by-y : (c : tie.After-size4) → (c .before .size3 .result + c .size4 .result) * start (half c) .args .dx ≤ 40000000 * 20000000
-by-y c = mul-le-mul (both-y c) (start (half c) .pre .sideX .high)
+by-x : (c : tie.After-counted4) → (c .before .counted3 .result + c .counted4 .result) * start (half c) .args .dx ≤ 40000000 * 20000000
+by-x c = mul-le-mul (south-north c) (start (half c) .pre .sideX .high)
 
--- what it returns; then that each operation fits
+-- what it returns
 returns : tie.Need-returns
-returns c =
-    let o = start (half c) in
-    cc (half c .before .size .ensures, half c .size2 .ensures, c .before .size3 .ensures, c .size4 .ensures, west o, east o, south o, north o, add-comm (natAbs (o .args .west)) (natAbs (o .args .east)), add-comm (natAbs (o .args .south)) (natAbs (o .args .north)))
+returns c = cc (west (half c .before), east (half c), south (c .before), north c)
 
-size-requires : tie.Need-size-requires
-size-requires c κs = search (within (int {w = w32} (c .pre .west) tt), within (int {w = w32} (c .pre .east) tt))
+-- that each operation fits
+counted-requires : tie.Need-counted-requires
+counted-requires c κs = search needs
 
-size-requires-2 : tie.Need-size-requires-2
-size-requires-2 c κs = search (within (int {w = w32} (c .before .pre .west) tt), within (int {w = w32} (c .before .pre .east) tt))
+counted-requires-2 : tie.Need-counted-requires-2
+counted-requires-2 c κs = search needs
 
-add-speed : tie.Need-add-speed
-add-speed c = omega (arith, both-x c)
+add-west-east : tie.Need-add-west-east
+add-west-east c = omega (arith, west-east c)
 
-mul-speed : tie.Need-mul-speed
-mul-speed c = omega (arith, by-x c)
+counted-requires-3 : tie.Need-counted-requires-3
+counted-requires-3 c κs = search needs
 
-size-requires-3 : tie.Need-size-requires-3
-size-requires-3 c κs = search (within (int {w = w32} (start c .pre .south) tt), within (int {w = w32} (start c .pre .north) tt))
+counted-requires-4 : tie.Need-counted-requires-4
+counted-requires-4 c κs = search needs
 
-size-requires-4 : tie.Need-size-requires-4
-size-requires-4 c κs = search (within (int {w = w32} (start (c .before) .pre .south) tt), within (int {w = w32} (start (c .before) .pre .north) tt))
-
-add-speed-2 : tie.Need-add-speed-2
-add-speed-2 c = omega (arith, both-y c)
-
-mul-speed-2 : tie.Need-mul-speed-2
-mul-speed-2 c = omega (arith, by-y c)
-
-add-speed-3 : tie.Need-add-speed-3
-add-speed-3 c = omega (arith, by-x (half c), by-y c)
+add-south-north : tie.Need-add-south-north
+add-south-north c = omega (arith, south-north c)
 
 mul-result : tie.Need-mul-result
-mul-result c = omega (arith, mul-le-mul (start (half c) .pre .time .high) (add-le-add (by-x (half c)) (by-y c)))
+mul-result c = omega (arith, by-y c)
 
 mul-result-2 : tie.Need-mul-result-2
-mul-result-2 c = omega (arith, mul-le-mul (start (half c) .pre .sideX .high) (start (half c) .pre .sideY .high))
+mul-result-2 c = omega (arith, by-x c)
+
+add-result : tie.Need-add-result
+add-result c = omega (arith, by-y c, by-x c)
 
 mul-result-3 : tie.Need-mul-result-3
-mul-result-3 c = omega (arith, mul-le-mul (start (half c) .pre .sideX .high) (start (half c) .pre .sideY .high))
+mul-result-3 c = omega (arith, mul-le-mul (start (half c) .pre .time .high) (add-le-add (by-y c) (by-x c)))
+
+mul-result-4 : tie.Need-mul-result-4
+mul-result-4 c = omega (arith, mul-le-mul (start (half c) .pre .sideX .high) (start (half c) .pre .sideY .high))
+
+mul-result-5 : tie.Need-mul-result-5
+mul-result-5 c = omega (arith, mul-le-mul (start (half c) .pre .sideX .high) (start (half c) .pre .sideY .high))
 
 pub keeps-limit-spec : {M : Type 1} → statement M
 keeps-limit-spec =
     tie.close
     (tie.spec
-    size-requires
-    size-requires-2
-    add-speed
-    mul-speed
-    size-requires-3
-    size-requires-4
-    add-speed-2
-    mul-speed-2
-    add-speed-3
+    counted-requires
+    counted-requires-2
+    add-west-east
+    counted-requires-3
+    counted-requires-4
+    add-south-north
     mul-result
     mul-result-2
+    add-result
     mul-result-3
+    mul-result-4
+    mul-result-5
     returns)

@@ -3,13 +3,13 @@ use mathlib.Core.Path.{_≡_, _∙_, ap}
 use mathlib.Core.Bool.{Bool, true, false}
 use mathlib.Core.List.{List}
 use Prim.Native.Nat.{ℕ, suc, _+_, _*_}
-use lib.IntN.{ℤ, natAbs}
+use lib.IntN.{ℤ}
 use lib.Dec.{leb}
 use mir.Val.{toZ, ofZ}
 use mir.Syntax.{w32}
 use Rattle.rules.specs.declared.Card.{Card}
 use Rattle.rules.specs.Site.{readState}
-use Rattle.rules.specs.Step.{withinLimit}
+use Rattle.rules.specs.Step.{forward, backward, withinLimit}
 use Rattle.laws.specs.Signed.{small-is, small-within}
 use Rattle.face.specs.Ranges.{InLimit}
 use Rattle.layout.specs.declared.cells.Cell.{Cell}
@@ -39,7 +39,7 @@ module _ {c : Card} {s : List ℤ} (i j : ℕ) (cell : Cell) (sound : SoundState
       }
 
   limit-is : {kept : Bool}
-      → kept ≡ leb (c .dt * ((natAbs (word (cell .west)) + natAbs (word (cell .east))) * c .dy + (natAbs (word (cell .south)) + natAbs (word (cell .north))) * c .dx)) (1000 * (c .dx * c .dy))
+      → kept ≡ leb (c .dt * ((backward (word (cell .west)) + forward (word (cell .east))) * c .dy + (backward (word (cell .south)) + forward (word (cell .north))) * c .dx)) (1000 * (c .dx * c .dy))
       → kept ≡ withinLimit c (readState c s) i j
   unfolding withinLimit speeds cellAt
   limit-is e =
