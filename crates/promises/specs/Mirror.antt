@@ -5,15 +5,16 @@ use mathlib.Core.Path.{_≡_, refl, sym, _∙_}
 use mathlib.Core.Bool.{Bool, true, false, cond}
 use native.Mathlib.Nat.{add-comm}
 use native.Mathlib.Omega.{arith}
-use lib.IntN.{ℤ, pos, negℤ, natAbs}
+use lib.IntN.{ℤ, pos, negℤ}
 use lib.Dec.{T, ltb, ltb→lt}
 use Rattle.rules.specs.declared.Card.{Card}
 use Rattle.rules.specs.Grid.{Field}
 use Rattle.rules.specs.Site.{Water}
-use Rattle.rules.specs.Step.{Rule, eastTransfer, northTransfer, withinLimit, newHeight, after, before, eastFace, northFace, newEast, newNorth, next}
+use Rattle.rules.specs.Step.{Rule, eastTransfer, northTransfer, forward, backward, withinLimit, newHeight, after, before, eastFace, northFace, newEast, newNorth, next}
 use Rattle.rules.proofs.Fair.{transfer-turned, endForEnd, sideForSide, Fair}
-use Rattle.laws.specs.Numbers.{abs-neg, sums}
+use Rattle.laws.specs.Numbers.{sums}
 use Rattle.laws.specs.Walls.{wall, inside, walled-same, walled-mirror}
+use Rattle.laws.specs.Outward.{forward-neg, backward-neg}
 
 pub record MirrorField (m n : ℕ) (f f′ : Field) : Type 0 where
   pub same : (i i′ j : ℕ) → suc (i + i′) ≡ m → j < n → f′ i j ≡ f i′ j
@@ -78,7 +79,7 @@ module _ (c : Card) (w w′ : Water) (𝓜 : Mirror c w w′) where
   unfolding withinLimit
   limits i i′ j e h =
       rw (𝓜 .east i (suc i′) j (omega arith) h, 𝓜 .east (suc i) i′ j (omega arith) h, 𝓜 .north i i′ j e (omega arith), 𝓜 .north i i′ (suc j) e h)
-      (rw (abs-neg (w .east (suc i′) j), abs-neg (w .east i′ j), add-comm (natAbs (w .east (suc i′) j)) (natAbs (w .east i′ j))))
+      (rw (backward-neg (w .east (suc i′) j), forward-neg (w .east i′ j), add-comm (forward (w .east (suc i′) j)) (backward (w .east i′ j))))
 
   module _ (g g′ : Field) (𝓖 : MirrorField (c .columns) (c .rows) g g′) where
     -- K of the one is L of the other

@@ -3,12 +3,12 @@ use Prim.Native.Nat.{ℕ, zero, suc, _+_, _*_, _≤_, _<_}
 use mathlib.Core.Path.{_≡_, refl}
 use native.Mathlib.Nat.{add-comm, mul-comm}
 use native.Mathlib.Omega.{arith}
-use lib.IntN.{ℤ, natAbs}
+use lib.IntN.{ℤ}
 use lib.Dec.{ltb, ltb→lt}
 use Rattle.rules.specs.declared.Card.{Card}
 use Rattle.rules.specs.Grid.{Field}
 use Rattle.rules.specs.Site.{Water}
-use Rattle.rules.specs.Step.{Rule, eastTransfer, northTransfer, withinLimit, newHeight, after, before, eastFace, northFace, newEast, newNorth, next}
+use Rattle.rules.specs.Step.{Rule, eastTransfer, northTransfer, forward, backward, withinLimit, newHeight, after, before, eastFace, northFace, newEast, newNorth, next}
 use Rattle.rules.specs.Turn.{swapCard}
 use Rattle.laws.specs.Tests.{cond-cong}
 use Rattle.laws.specs.Numbers.{sums}
@@ -62,7 +62,7 @@ module _ (c : Card) (w w′ : Water) (𝓢 : Swapped c w w′) where
       rw (𝓢 .east i j (omega arith) hj, 𝓢 .east (suc i) j hi hj, 𝓢 .north i j hi (omega arith), 𝓢 .north i (suc j) hi hj)
       (rw (
         mul-comm (c .dy) (c .dx),
-        add-comm ((natAbs (w .north j i) + natAbs (w .north j (suc i))) * c .dx) ((natAbs (w .east j i) + natAbs (w .east (suc j) i)) * c .dy),
+        add-comm ((backward (w .north j i) + forward (w .north j (suc i))) * c .dx) ((backward (w .east j i) + forward (w .east (suc j) i)) * c .dy),
       ))
 
   module _ (g g′ : Field) (𝓖 : SwappedField (c .columns) (c .rows) g g′) where

@@ -1,0 +1,102 @@
+-- Document 02, [9]: a face counts in a cell's step limit only if its velocity points out of that cell, and nothing is lost by it. Every step that document 01's
+-- own limit accepted is accepted, with the same next state; so is every run of such steps. No answer but 4 changed.
+use Prim.Native.Nat.{ℕ, suc, _+_, _*_}
+use mathlib.Core.Path.{_≡_, refl, sym, _∙_, subst}
+use mathlib.Core.Bool.{Bool, true, false}
+use mathlib.Core.List.{List}
+use native.Mathlib.Nat.{le-trans, add-le-add, mul-le-mul-right, mul-le-mul-left}
+use native.Mathlib.Omega.{arith}
+use lib.IntN.{ℤ, pos, natAbs}
+use lib.ListN.{length}
+use lib.Dec.{T, leb, leb→le, le→leb}
+use Rattle.rules.specs.declared.Card.{Card}
+use Rattle.rules.specs.Grid.{all, allAt}
+use Rattle.rules.specs.Site.{Water, check, firstRefusal, readGround, readState}
+use Rattle.rules.specs.Step.{forward, backward, withinLimit, newVelocity, limitKept, newHeightsFit, sharesFit, newVelocitiesFit, answer, number, stepNumberBy, stepNumber, nextState}
+use Rattle.rules.specs.Run.{Stepping, Outcome, peak, runFrom, siteStep, run}
+use Rattle.rules.specs.Calls.{stepAnswer, stepNext, runOutcome}
+use Rattle.rules.specs.Starred.{oneRow, flat, passing}
+use Rattle.laws.specs.Grids.{allAt-at, allAt-intro}
+use Rattle.laws.specs.Outward.{forward-size, backward-size}
+use Rattle.laws.specs.Runs.{begun}
+use Rattle.promises.specs.Narrowed.{Narrows, narrowed}
+use Rattle.promises.specs.TheCall.{call-steps, call-leaves, call-runs}
+
+-- ---- Document 01's limit, (18) as it stands: every face of a cell counts, whichever way its velocity points
+
+unfoldable pub withinOldLimit : Card → Water → ℕ → ℕ → Bool
+withinOldLimit c w i j =
+    leb (c .dt * ((natAbs (w .east i j) + natAbs (w .east (suc i) j)) * c .dy + (natAbs (w .north i j) + natAbs (w .north i (suc j))) * c .dx))
+    (1000 * (c .dx * c .dy))
+
+unfoldable pub oldLimitKept : Card → Water → Bool
+oldLimitKept c w = allAt (c .columns) (c .rows) (withinOldLimit c w)
+
+-- the step's number under it, and the step; what the next state is never asked for the limit
+unfoldable pub oldNumber : Card → (ground state : List ℤ) → ℕ
+oldNumber c g s =
+    answer (oldLimitKept c (readState c s)) (newHeightsFit c (readState c s)) (sharesFit c (readGround c g) (readState c s)) (newVelocitiesFit newVelocity c (readGround c g) (readState c s))
+
+abbrev pub oldStep : Card → (ground : List ℤ) → Stepping
+oldStep c g = record { number = oldNumber c g; next = nextState c g; peak = peak c }
+
+-- ---- What is promised
+
+-- a step that was accepted: the call's number is 0, and it leaves the next state
+pub record StillAccepted (c : Card) (g s next : List ℤ) : Type 0 where
+  pub number : stepAnswer c g s next ≡ 0
+  pub state : stepNext c g s next ≡ nextState c g s
+
+-- ---- Why
+
+-- a cell that kept the old limit keeps the new one
+cell-keeps : (c : Card) (w : Water) (i j : ℕ) → T (withinOldLimit c w i j) → T (withinLimit c w i j)
+unfolding withinOldLimit withinLimit
+cell-keeps c w i j t =
+    le→leb _ _
+    (le-trans
+    (mul-le-mul-left (c .dt)
+    (add-le-add
+    (mul-le-mul-right (c .dy) (add-le-add (backward-size (w .east i j)) (forward-size (w .east (suc i) j))))
+    (mul-le-mul-right (c .dx) (add-le-add (backward-size (w .north i j)) (forward-size (w .north i (suc j)))))))
+    (leb→le _ _ t))
+
+site-keeps : (c : Card) (w : Water) → T (oldLimitKept c w) → T (limitKept c w)
+unfolding oldLimitKept limitKept
+site-keeps c w t = allAt-intro (c .columns) (c .rows) (withinLimit c w) (λ i j hi hj. cell-keeps c w i j (allAt-at (c .columns) (c .rows) (withinOldLimit c w) t i j hi hj))
+
+-- so that the answer changes only where it was 4
+answer-stays : (old new h s v : Bool) → (T old → T new) → (answer old h s v ≡ 4 → ⊥) → answer new h s v ≡ answer old h s v
+unfolding answer
+answer-stays false new h s v f n = absurd (n refl)
+answer-stays true true h s v f n = refl
+answer-stays true false h s v f n = absurd (f tt)
+
+pub number-stays : (c : Card) (g s : List ℤ) → (oldNumber c g s ≡ 4 → ⊥) → stepNumber c g s ≡ oldNumber c g s
+unfolding oldNumber stepNumber stepNumberBy number
+number-stays c g s = answer-stays (oldLimitKept c (readState c s)) (limitKept c (readState c s)) _ _ _ (site-keeps c (readState c s))
+
+narrows : (c : Card) (g : List ℤ) → Narrows 4 (oldStep c g) (siteStep c g)
+narrows c g = record { refusal = omega arith; numbers = number-stays c g; states = λ s. refl; peaks = λ s. refl }
+
+-- ---- The theorems
+
+pub step-stays : (c : Card) (g s next : List ℤ) → check c g s ≡ 0 → length next ≡ length s → oldNumber c g s ≡ 0 → StillAccepted c g s next
+unfolding firstRefusal
+step-stays c g s next e l z =
+    let n : stepNumber c g s ≡ 0 = number-stays c g s (λ q. zero-not-four (sym z ∙ q)) ∙ z in
+    let a : stepAnswer c g s next ≡ 0 = call-steps c g s next l ∙ rw (e, n) in
+    record { number = a; state = call-leaves c g s next a }
+  where
+    zero-not-four : _≡_ {A = ℕ} 0 4 → ⊥
+    zero-not-four e = omega arith
+
+pub run-stays : (c : Card) (g s scratch : List ℤ) → check c g s ≡ 0 → length scratch ≡ length s → (runFrom (oldStep c g) (c .steps) s .tally .reason ≡ 4 → ⊥)
+    → runOutcome c g s scratch ≡ runFrom (oldStep c g) (c .steps) s
+run-stays c g s scratch e l h = call-runs c g s scratch l ∙ begun c g s e ∙ narrowed (narrows c g) (c .steps) s h
+
+-- ---- And water that passes through is no longer refused: of the 3×1 site with both inner faces at 6,000,000, which `Starred` steps on, the number was 4
+
+pub was-refused : oldNumber (oneRow 3) (flat 3) (passing (pos 1000000) (pos 1000000) (pos 1000000) (pos 6000000) (pos 6000000)) ≡ 4
+unfolding oneRow flat passing all allAt readState withinOldLimit oldLimitKept oldNumber answer
+was-refused = refl
