@@ -1,4 +1,4 @@
-/* water.h: what a host links. Document 01 says what each call does; this page says how C reaches it.
+/* water.h: what a host links. Documents 01 and 02 say what each call does; this page says how C reaches it.
  *
  * Every call takes any input at all: any card, any length, any word. Nothing is required of the caller but that each pointer
  * reaches as many elements as the length behind it says (a length of 0 allows any pointer, NULL too), and that a list that a
@@ -8,6 +8,10 @@
  * a wall velocity not 0 or a window edge not finite, 4 a cell breaks the step limit, 5 a new height exceeds 50,000,000,
  * 6 an own share is negative, 7 a new velocity is out of range, 8 the lent room is too short, 9 not a sheet of version 1.
  * The lowest number that applies is given; the sheet reader looks for 9 first.
+ *
+ * Step limit: dt*(we*dy + sn*dx) <= 1000*dx*dy in every cell, dry ones too, we being its west velocity if that points west plus
+ * its east one if that points east, each without its sign, and sn the same for south and north: what leaves a cell in one step is
+ * at most what it holds. A face that lets water into a cell does not count there, so water may pass through.
  *
  * Lists: rows run south to north, and within a row west to east. Ground is columns*rows words. A state is columns*rows heights,
  * then (columns+1)*rows eastward velocities, then columns*(rows+1) northward velocities. Micrometres and micrometres a second.

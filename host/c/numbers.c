@@ -152,6 +152,18 @@ static void steps(void) {
     EXPECT(step(bank, dry, next) == 0 && SAME(next, pulled));
 }
 
+/* document 02, [9]: both inner faces of three cells at 6,000,000 */
+static void passing_through(void) {
+    static const WaterCard wide = {3, 1, 1000000, 1000000, 100, 0};
+    static const int32_t ground[3] = {0, 0, 0};
+    static const int32_t state[13] = {1000000, 1000000, 1000000, 0, 6000000, 6000000};
+    static const int32_t then[13] = {400000, 1000000, 1600000, 0, 2840172, 5411601};
+    static const int32_t blank[13] = {1};
+    int32_t *next = LEND(blank);
+    EXPECT(water_step(wide, LEND(ground), 3, LEND(state), 13, next, 13) == 0 && SAME(next, then));
+    hand_back();
+}
+
 static void at_rest(void) {
     static const WaterCard wide = {3, 1, 1000000, 1000000, 100, 0};
     static const int32_t ground[3] = {0, 400000, 100000};
@@ -322,6 +334,7 @@ static void no_pointers(void) {
 int main(void) {
     for (fenced = 0; fenced <= 1; fenced++) {
         steps();
+        passing_through();
         at_rest();
         run(1, 10000, 0);
         run(1, 10001, 1);

@@ -11,7 +11,8 @@ pub enum Refusal {
     Length,
     /// 3: a value outside its range, a wall velocity not 0, or a window edge not finite
     Value,
-    /// 4: some cell breaks the step limit
+    /// 4: some cell breaks the step limit: the velocities that point out of it would take more than it holds in one step. A dry cell
+    /// counts too, and a velocity that points into a cell does not count there. A shorter time step helps.
     StepLimit,
     /// 5: some new height exceeds 50,000,000
     TooHigh,

@@ -35,6 +35,17 @@ fn the_step_limit() {
     assert_eq!(step_pair([0, 0], [2_000_000, 1_000_000], 10_000_001), Err(4));
 }
 
+/// Document 02, [9]: water that passes through the middle cell of three is no longer refused.
+#[test]
+fn water_passes_through() {
+    let card = Card { columns: 3, ..CARD };
+    let state = |heights: [i32; 3], first, second| [&heights[..], &[0, first, second, 0], &[0; 6]].concat();
+    let mut next = vec![-7; 13];
+    let through = state([1_000_000; 3], 6_000_000, 6_000_000);
+    assert_eq!(library::step(&mut Rng::new(1), card, &[0; 3], &through, &mut next), 0);
+    assert_eq!(next, state([400_000, 1_000_000, 1_600_000], 2_840_172, 5_411_601));
+}
+
 #[test]
 fn a_transfer_goes_towards_zero() {
     // from height 3 at 5,000,000: 3·5,000,000·100 / 1,000,000,000 = 1.5

@@ -1,6 +1,6 @@
 //! The benchmark: each call of the library as a ratio to the same work in plain Rust, same input, same process, turn by turn.
 //!
-//! `cargo run --release --bin bench` prints two tables, that of step and run and that of the other calls. A step in plain Rust always divides, or, in the second
+//! `cargo run --release --bin bench` prints two tables, that of step and run and that of a refused step and the other calls. A step in plain Rust always divides, or, in the second
 //! column, skips a division where what it would divide is 0. All must give the same answers and lists, or it stops.
 //! `cargo run --release --bin bench long` runs 10,000 steps on 128×128 and prints what a step costs along the way.
 
@@ -53,6 +53,29 @@ fn bench_step(site: &Measured, water: &str) {
     ]);
     assert!(next == dividing_next && next == skipping_next, "all step alike");
     row("step", card.columns, water, 1.0, medians);
+}
+
+/// A step that the look at the step limit refuses, and only at the last cell.
+fn bench_refused(site: &Measured, water: &str) {
+    let Measured { ground, state, .. } = site;
+    let card = Card { dt: 60, ..site.card };
+    let mut state = state.clone();
+    // the last inner eastward face, at full speed out of the last cell
+    state[card.cells() + card.eastward_faces() - 2] = -20_000_000;
+    let (mut next, mut plain_next) = (vec![0; state.len()], vec![0; state.len()]);
+    let mut plain = Plain::<false>::new();
+    let medians = compare([
+        &mut || {
+            assert_eq!(calls::step(card, ground, &state, &mut next), Err(Refusal::StepLimit));
+            seen(&mut next);
+        },
+        &mut || {
+            assert_eq!(plain.step(card, ground, &state, &mut plain_next), 4);
+            seen(&mut plain_next);
+        },
+    ]);
+    assert!(next == plain_next, "both leave the next state as lent");
+    row("step refused at the last cell (4)", card.columns, water, 1.0, medians);
 }
 
 fn bench_run(site: &Measured, water: &str, steps: u32) {
@@ -198,6 +221,7 @@ fn main() {
     println!("|---|---|---|---|---|---|");
     for size in [8, 128] {
         let site = site(size, Water::Moving);
+        bench_refused(&site, "moving");
         bench_search(&site, "moving");
         bench_sheet(&site, "moving");
     }

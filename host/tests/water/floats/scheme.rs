@@ -60,6 +60,18 @@ fn fluxes(card: &Card, water: &Water) -> (Vec<f64>, Vec<f64>) {
     (east, north)
 }
 
+/// The largest share of any cell's water that leaves it in one step, over the faces whose velocity points out of it; of a dry cell, the
+/// share that would. (18) asks that it be at most 1.
+pub fn leaving(card: &Card, water: &Water) -> f64 {
+    let seconds = f64::from(card.dt) / 1_000.0;
+    let share = |i: usize, j: usize| {
+        let west_east = f64::max(-water.east(i, j), 0.0) + f64::max(water.east(i + 1, j), 0.0);
+        let south_north = f64::max(-water.north(i, j), 0.0) + f64::max(water.north(i, j + 1), 0.0);
+        seconds * (west_east / f64::from(card.dx) + south_north / f64::from(card.dy))
+    };
+    (0..water.rows).flat_map(|j| (0..water.columns).map(move |i| (i, j))).fold(0.0, |most, (i, j)| f64::max(most, share(i, j)))
+}
+
 /// (7d) for one face: the momentum that is there and that comes in, less what goes out, over the new mass, less the surface's slope.
 /// A flow over a dual edge is positive out of the face's cell; what goes out carries u, what comes in the neighbour's velocity.
 fn new_velocity(u: f64, old_sum: f64, new_sum: f64, flows: [(f64, f64); 4], slope: f64) -> f64 {

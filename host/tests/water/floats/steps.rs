@@ -15,11 +15,11 @@
 //!
 //! Where the library's H' is 0 its velocity is 0 by rule, while the doubles may keep up to 6 µm of water there: not compared.
 
-use super::scheme::{step, Water, GRAVITY};
+use super::scheme::{leaving, step, Water, GRAVITY};
 use crate::rng::Rng;
 use crate::trials::trials;
 use crate::wild::{self, Wild};
-use water::calls;
+use water::{calls, Refusal};
 
 /// The largest differences, and how many numbers were compared.
 #[derive(Default)]
@@ -94,6 +94,24 @@ fn random_sites() {
     });
     report("random sites", &seen);
     assert!(seen.velocities > 20_000 || crate::trials::single());
+}
+
+/// Refusal 4 is given exactly where more than the whole of some cell would leave it; nearer to the whole than 10^-9, doubles cannot tell.
+#[test]
+fn the_step_limit() {
+    let mut told = [0; 2];
+    trials("floats, the step limit", 4_000, |rng| {
+        let site = wild::good(rng);
+        let share = leaving(&site.card, &Water::of(&site.card, &site.state));
+        let refused =
+            calls::step(site.card, &site.ground, &site.state, &mut vec![0; site.state.len()]) == Err(Refusal::StepLimit);
+        if (share - 1.0).abs() > 1e-9 {
+            assert_eq!(refused, share > 1.0, "{share} of a cell leaves it: {:?}", site.card);
+            told[usize::from(refused)] += 1;
+        }
+    });
+    println!("floats, the step limit: {} kept, {} broken", told[0], told[1]);
+    assert!(told.iter().all(|&times| times > 300) || crate::trials::single());
 }
 
 /// A metre and more of water everywhere: here the roundings are all that is left, a few µm and µm/s.

@@ -14,12 +14,13 @@ pub fn transfer(dt: u32, d: u32, height_k: i128, height_l: i128, u: i128) -> i12
     u.signum() * (height * u.abs() * i128::from(dt) / (1_000 * i128::from(d)))
 }
 
-/// Step limit: dt·((|west|+|east|)·dy + (|south|+|north|)·dx) ≤ 1000·dx·dy.
+/// Step limit: dt·((west, if it points west, plus east, if it points east)·dy + (south, if it points south, plus north, if it points
+/// north)·dx) ≤ 1000·dx·dy.
 fn within_step_limit(site: &Site, i: usize, j: usize) -> bool {
     let Card { dx, dy, dt, .. } = site.card;
     let (dx, dy, dt) = (i128::from(dx), i128::from(dy), i128::from(dt));
-    let west_east = site.east(i, j).abs() + site.east(i + 1, j).abs();
-    let south_north = site.north(i, j).abs() + site.north(i, j + 1).abs();
+    let west_east = (-site.east(i, j)).max(0) + site.east(i + 1, j).max(0);
+    let south_north = (-site.north(i, j)).max(0) + site.north(i, j + 1).max(0);
     dt * (west_east * dy + south_north * dx) <= 1_000 * dx * dy
 }
 

@@ -5,7 +5,8 @@ use crate::model;
 use crate::rng::Rng;
 use water::raw::Card;
 
-/// A middle cell whose faces meet the step limit exactly, or pass it by as little as the numbers allow.
+/// A middle cell whose faces that point out of it meet the step limit exactly, or pass it by as little as the numbers allow; a face that
+/// points into it runs at any speed that the cell behind it stands.
 pub fn of_limit(rng: &mut Rng) -> Wild {
     let card = loop {
         let card = Card { columns: 3, rows: 3, ..card(rng) };
@@ -20,11 +21,20 @@ pub fn of_limit(rng: &mut Rng) -> Wild {
     let south_north = (left / (dt * dx) + rng.between(0, 1)).min(2 * SPEED);
     let mut site = Wild::empty(card);
     site.state[..9].fill(rng.pick(&[0, 1, 1_000_000]));
-    let faces = [(site.east(1, 1), site.east(2, 1), west_east), (site.north(1, 1), site.north(1, 2), south_north)];
-    for (low, high, sum) in faces {
-        let first = rng.between((sum - SPEED).max(0), sum.min(SPEED));
-        site.state[low] = (first * rng.pick(&[1, -1])) as i32;
-        site.state[high] = ((sum - first) * rng.pick(&[1, -1])) as i32;
+    let faces = [(site.east(1, 1), site.east(2, 1), west_east, dx), (site.north(1, 1), site.north(1, 2), south_north, dy)];
+    for (low, high, sum, side) in faces {
+        // out over both, or through: the whole sum over one, if it can, and in over the other
+        let inward = rng.between(0, (1_000 * side / dt).min(SPEED));
+        let (back, forth) = match rng.below(3) {
+            0 if sum <= SPEED => (-inward, sum),
+            1 if sum <= SPEED => (sum, -inward),
+            _ => {
+                let first = rng.between((sum - SPEED).max(0), sum.min(SPEED));
+                (first, sum - first)
+            }
+        };
+        site.state[low] = -back as i32;
+        site.state[high] = forth as i32;
     }
     site
 }

@@ -129,7 +129,7 @@ fn gentle_rise(card: &Card) -> i64 {
     (SPEED * i64::from(card.dx.min(card.dy)) * 1_000 / (9_806_650 * i64::from(card.dt))).clamp(4, HEIGHT)
 }
 
-/// A speed at which a cell with four such faces just keeps the step limit.
+/// A speed at which a cell that lets water out over all four faces just keeps the step limit.
 fn brisk(card: &Card) -> i64 {
     let (dx, dy, dt) = (i64::from(card.dx), i64::from(card.dy), i64::from(card.dt));
     (500 * dx * dy / (dt * (dx + dy))).min(SPEED)
@@ -155,8 +155,9 @@ fn tempered(rng: &mut Rng, card: Card) -> Wild {
     let speed = match rng.below(12) {
         0 | 1 => 0,
         2..=5 => brisk(&card) / 16,
-        6..=8 => brisk(&card),
-        9 => (brisk(&card) * 3 / 2).min(SPEED),
+        6 | 7 => brisk(&card),
+        8 => (brisk(&card) * 3 / 2).min(SPEED),
+        9 => (brisk(&card) * 2).min(SPEED),
         10 => rng.scaled(1, SPEED),
         _ => SPEED,
     };

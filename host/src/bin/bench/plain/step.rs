@@ -75,13 +75,18 @@ impl<const SKIPS: bool> Plain<SKIPS> {
 fn limit_kept(card: &Card, state: &Parts) -> bool {
     let (columns, rows) = (card.columns as usize, card.rows as usize);
     let (dx, dy, dt) = (i64::from(card.dx), i64::from(card.dy), i64::from(card.dt));
-    let size = |velocity: i32| i64::from(velocity.unsigned_abs());
+    // a face counts in the cell that its velocity points out of
+    let forward = |velocity: i32| i64::from(velocity.max(0));
+    let backward = |velocity: i32| -i64::from(velocity.min(0));
     (0..rows).all(|j| {
         let east = &state.east[j * (columns + 1)..][..columns + 1];
         let south = &state.north[j * columns..][..columns];
         let north = &state.north[(j + 1) * columns..][..columns];
-        (0..columns)
-            .all(|i| dt * ((size(east[i]) + size(east[i + 1])) * dy + (size(south[i]) + size(north[i])) * dx) <= 1_000 * dx * dy)
+        (0..columns).all(|i| {
+            let west_east = backward(east[i]) + forward(east[i + 1]);
+            let south_north = backward(south[i]) + forward(north[i]);
+            dt * (west_east * dy + south_north * dx) <= 1_000 * dx * dy
+        })
     })
 }
 
