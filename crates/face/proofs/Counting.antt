@@ -1,5 +1,5 @@
 -- What a face counts in a cell's limit is at most its speed, whatever was asked of it; and asked whether it points out, what `rules` counts.
-use Prim.Native.Nat.{ℕ, zero, suc, _≤_, zero-le, suc-le-suc}
+use Prim.Native.Nat.{zero, suc, _≤_, zero-le, suc-le-suc}
 use mathlib.Core.Path.{_≡_, refl}
 use mathlib.Core.Bool.{Bool, true, false}
 use native.Mathlib.Nat.{le-refl}

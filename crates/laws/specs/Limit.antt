@@ -1,9 +1,9 @@
 -- What the step limit gives: what leaves a cell in one step is at most what the cell holds (`leaves-at-most`). Whatever else rests on the limit rests on this law.
 use Prim.Native.Nat.{ℕ, zero, suc, _+_, _*_, _/_, _≤_, _<_, zero-le}
-use mathlib.Core.Path.{_≡_, refl, _∙_}
+use mathlib.Core.Path.{_≡_}
 use native.Mathlib.Nat.{le-refl, le-trans, le-of-eq, add-le-add, add-mul, mul-le-mul, div-mul-le-self, mul-le-mul-right, mul-le-mul-left, le-of-mul-le-mul-right}
 use native.Mathlib.Omega.{arith}
-use lib.IntN.{ℤ, pos, negsuc, negℤ, natAbs}
+use lib.IntN.{ℤ, pos, negsuc, natAbs}
 use lib.Dec.{T, leb→le}
 use Rattle.rules.specs.declared.Card.{Card}
 use Rattle.rules.specs.Site.{Water}

@@ -14,8 +14,8 @@ pub record Narrows {S : Type 0} (r : ℕ) (other step : SteppingOf S) : Type 0 w
   pub states : (s : S) → step .next s ≡ other .next s
   pub peaks : (s : S) → step .peak s ≡ other .peak s
 
--- 0 is not a refusal
-done-not : {k r : ℕ} → 0 < r → k ≡ 0 → k ≡ r → ⊥
+-- a step that was done was not refused
+pub done-not : {k r : ℕ} → 0 < r → k ≡ 0 → k ≡ r → ⊥
 done-not h z e = omega arith
 
 module _ {S : Type 0} {r : ℕ} {other step : SteppingOf S} (𝓝 : Narrows r other step) where

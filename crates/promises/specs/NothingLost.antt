@@ -1,7 +1,7 @@
 -- Document 02, [9]: a face counts in a cell's step limit only if its velocity points out of that cell, and nothing is lost by it. Every step that document 01's
 -- own limit accepted is accepted, with the same next state; so is every run of such steps. No answer but 4 changed.
 use Prim.Native.Nat.{ℕ, suc, _+_, _*_}
-use mathlib.Core.Path.{_≡_, refl, sym, _∙_, subst}
+use mathlib.Core.Path.{_≡_, refl, _∙_}
 use mathlib.Core.Bool.{Bool, true, false}
 use mathlib.Core.List.{List}
 use native.Mathlib.Nat.{le-trans, add-le-add, mul-le-mul-right, mul-le-mul-left}
@@ -12,14 +12,14 @@ use lib.Dec.{T, leb, leb→le, le→leb}
 use Rattle.rules.specs.declared.Card.{Card}
 use Rattle.rules.specs.Grid.{all, allAt}
 use Rattle.rules.specs.Site.{Water, check, firstRefusal, readGround, readState}
-use Rattle.rules.specs.Step.{forward, backward, withinLimit, newVelocity, limitKept, newHeightsFit, sharesFit, newVelocitiesFit, answer, number, stepNumberBy, stepNumber, nextState}
-use Rattle.rules.specs.Run.{Stepping, Outcome, peak, runFrom, siteStep, run}
+use Rattle.rules.specs.Step.{withinLimit, newVelocity, limitKept, newHeightsFit, sharesFit, newVelocitiesFit, answer, number, stepNumberBy, stepNumber, nextState}
+use Rattle.rules.specs.Run.{Stepping, peak, runFrom, siteStep}
 use Rattle.rules.specs.Calls.{stepAnswer, stepNext, runOutcome}
 use Rattle.rules.specs.Starred.{oneRow, flat, passing}
 use Rattle.laws.specs.Grids.{allAt-at, allAt-intro}
 use Rattle.laws.specs.Outward.{forward-size, backward-size}
 use Rattle.laws.specs.Runs.{begun}
-use Rattle.promises.specs.Narrowed.{Narrows, narrowed}
+use Rattle.promises.specs.Narrowed.{Narrows, done-not, narrowed}
 use Rattle.promises.specs.TheCall.{call-steps, call-leaves, call-runs}
 
 -- ---- Document 01's limit, (18) as it stands: every face of a cell counts, whichever way its velocity points
@@ -84,12 +84,9 @@ narrows c g = record { refusal = omega arith; numbers = number-stays c g; states
 pub step-stays : (c : Card) (g s next : List ℤ) → check c g s ≡ 0 → length next ≡ length s → oldNumber c g s ≡ 0 → StillAccepted c g s next
 unfolding firstRefusal
 step-stays c g s next e l z =
-    let n : stepNumber c g s ≡ 0 = number-stays c g s (λ q. zero-not-four (sym z ∙ q)) ∙ z in
+    let n : stepNumber c g s ≡ 0 = number-stays c g s (done-not (omega arith) z) ∙ z in
     let a : stepAnswer c g s next ≡ 0 = call-steps c g s next l ∙ rw (e, n) in
     record { number = a; state = call-leaves c g s next a }
-  where
-    zero-not-four : _≡_ {A = ℕ} 0 4 → ⊥
-    zero-not-four e = omega arith
 
 pub run-stays : (c : Card) (g s scratch : List ℤ) → check c g s ≡ 0 → length scratch ≡ length s → (runFrom (oldStep c g) (c .steps) s .tally .reason ≡ 4 → ⊥)
     → runOutcome c g s scratch ≡ runFrom (oldStep c g) (c .steps) s

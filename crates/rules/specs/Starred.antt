@@ -47,7 +47,7 @@ pub record Starred : Type 0 where
   pub over-limit : Refuses 2 (flat 2) (two (pos 2000000) (pos 1000000) (pos 10000001)) 4
   -- document 02, [9]: water passes through the middle cell, both inner faces at 6,000,000
   pub passed-through :
-    Steps 3 (flat 3) (passing (pos 1000000) (pos 1000000) (pos 1000000) (pos 6000000) (pos 6000000)) (passing (pos 400000) (pos 1000000) (pos 1600000) (pos 2840172) (pos 5411601))
+      Steps 3 (flat 3) (passing (pos 1000000) (pos 1000000) (pos 1000000) (pos 6000000) (pos 6000000)) (passing (pos 400000) (pos 1000000) (pos 1600000) (pos 2840172) (pos 5411601))
   -- from height 3 at 5,000,000: 1; at -5,000,000: -1, not -2; the water comes from K, or from L, and the other cell is dry
   pub transfer-east : transfer 100 1000000 (pos 3) (pos 0) (pos 5000000) ≡ pos 1
   pub transfer-west : transfer 100 1000000 (pos 0) (pos 3) (negℤ (pos 5000000)) ≡ negℤ (pos 1)
