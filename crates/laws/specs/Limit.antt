@@ -50,7 +50,7 @@ spent h dt dx dy w e s n hx hy l =
     let z : 1 * 1 ≤ dx * dy = mul-le-mul hx hy in
     le-of-mul-le-mul-right {k = 1000 * (dx * dy)} (weighed h dt dx dy w e s n _ _ _ _ a b c d m) (omega arith)
 
--- ---- a transfer: what crosses forward comes from K, at K's speed forward; what crosses backward comes from L
+-- ---- a transfer: what crosses forward comes from K, at the face's speed forward; what crosses backward comes from L, at its speed backward
 
 crossed-forward : (dt d : ℕ) (hK hL u : ℤ) → forward (transfer dt d hK hL u) ≤ natAbs hK * forward u * dt / (1000 * d)
 unfolding transfer forward backward
@@ -67,7 +67,7 @@ crossed-backward dt d hK hL (negsuc n) = le-of-eq (backward-neg (pos (natAbs hL 
 -- ---- the four faces of a cell
 
 module _ (c : Card) (w : Water) (i j : ℕ) where
-  -- what the cell sends over a side of a cell of width d, at this speed
+  -- what the cell sends over a face at this speed, d being dx or dy by the face's direction
   abbrev sends : (d speed : ℕ) → ℕ
   sends d speed = natAbs (w .height i j) * speed * c .dt / (1000 * d)
 

@@ -15,7 +15,7 @@ use Rattle.rules.specs.Site.{Water, check, firstRefusal, readGround, readState}
 use Rattle.rules.specs.Step.{withinLimit, newVelocity, limitKept, newHeightsFit, sharesFit, newVelocitiesFit, answer, number, stepNumberBy, stepNumber, nextState}
 use Rattle.rules.specs.Run.{Stepping, peak, runFrom, siteStep}
 use Rattle.rules.specs.Calls.{stepAnswer, stepNext, runOutcome}
-use Rattle.rules.specs.Starred.{oneRow, flat, passing}
+use Rattle.rules.specs.Starred.{oneRow, flat, two, passing}
 use Rattle.laws.specs.Grids.{allAt-at, allAt-intro}
 use Rattle.laws.specs.Outward.{forward-size, backward-size}
 use Rattle.laws.specs.Runs.{begun}
@@ -32,7 +32,7 @@ withinOldLimit c w i j =
 unfoldable pub oldLimitKept : Card → Water → Bool
 oldLimitKept c w = allAt (c .columns) (c .rows) (withinOldLimit c w)
 
--- the step's number under it, and the step; what the next state is never asked for the limit
+-- the step's number under it, and the step; the next state never asks for the limit
 unfoldable pub oldNumber : Card → (ground state : List ℤ) → ℕ
 oldNumber c g s =
     answer (oldLimitKept c (readState c s)) (newHeightsFit c (readState c s)) (sharesFit c (readGround c g) (readState c s)) (newVelocitiesFit newVelocity c (readGround c g) (readState c s))
@@ -92,7 +92,11 @@ pub run-stays : (c : Card) (g s scratch : List ℤ) → check c g s ≡ 0 → le
     → runOutcome c g s scratch ≡ runFrom (oldStep c g) (c .steps) s
 run-stays c g s scratch e l h = call-runs c g s scratch l ∙ begun c g s e ∙ narrowed (narrows c g) (c .steps) s h
 
--- ---- And water that passes through is no longer refused: of the 3×1 site with both inner faces at 6,000,000, which `Starred` steps on, the number was 4
+-- ---- On numbers of `Starred`: the old limit stood just as much where one face moves, and refused the 3×1 site with both inner faces at 6,000,000
+
+pub was-accepted : oldLimitKept (oneRow 2) (readState (oneRow 2) (two (pos 2000000) (pos 1000000) (pos 10000000))) ≡ true
+unfolding oneRow flat two all allAt readState withinOldLimit oldLimitKept
+was-accepted = refl
 
 pub was-refused : oldNumber (oneRow 3) (flat 3) (passing (pos 1000000) (pos 1000000) (pos 1000000) (pos 6000000) (pos 6000000)) ≡ 4
 unfolding oneRow flat passing all allAt readState withinOldLimit oldLimitKept oldNumber answer

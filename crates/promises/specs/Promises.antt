@@ -37,8 +37,8 @@ pub use Rattle.promises.specs.RoundTrips.{write-then-read, not-written, 
 -- a window turned over lists nothing; -0.0 is 0
 pub use Rattle.promises.specs.Searches.{finds, as-long-as-lent, count-at-8, inside-exactly, compared-exactly, lists-nothing, minus-zero-answer, minus-zero-list}
 -- of document 02's [9], a face that counts only in the cell that its velocity points out of: a step which document 01's own limit accepted is accepted with the
--- same next state, a run which it did not stop is the same run, no answer but 4 changed; and water that passes through a cell was refused
-pub use Rattle.promises.specs.NothingLost.{step-stays, run-stays, number-stays, was-refused}
+-- same next state, a run which it did not stop is the same run, no answer but 4 changed; and, on numbers, what that limit accepted and refused
+pub use Rattle.promises.specs.NothingLost.{step-stays, run-stays, number-stays, was-accepted, was-refused}
 
 -- ---- Demand 3
 

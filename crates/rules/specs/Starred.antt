@@ -45,6 +45,8 @@ pub record Starred : Type 0 where
   -- the middle at 10,000,000 empties the west cell; one more breaks the step limit
   pub emptied : Steps 2 (flat 2) (two (pos 2000000) (pos 1000000) (pos 10000000)) (two (pos 0) (pos 3000000) (pos 391338))
   pub over-limit : Refuses 2 (flat 2) (two (pos 2000000) (pos 1000000) (pos 10000001)) 4
+  -- so it does to the west, out of the other cell
+  pub over-limit-west : Refuses 2 (flat 2) (two (pos 2000000) (pos 1000000) (negℤ (pos 10000001))) 4
   -- document 02, [9]: water passes through the middle cell, both inner faces at 6,000,000
   pub passed-through :
       Steps 3 (flat 3) (passing (pos 1000000) (pos 1000000) (pos 1000000) (pos 6000000) (pos 6000000)) (passing (pos 400000) (pos 1000000) (pos 1600000) (pos 2840172) (pos 5411601))
@@ -68,6 +70,7 @@ starred = record {
   second-step = (refl, refl);
   emptied = (refl, refl);
   over-limit = (refl, refl);
+  over-limit-west = (refl, refl);
   passed-through = (refl, refl);
   transfer-east = refl;
   transfer-west = refl;

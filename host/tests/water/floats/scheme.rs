@@ -61,7 +61,7 @@ fn fluxes(card: &Card, water: &Water) -> (Vec<f64>, Vec<f64>) {
 }
 
 /// The largest share of any cell's water that leaves it in one step, over the faces whose velocity points out of it; of a dry cell, the
-/// share that would. (18) asks that it be at most 1.
+/// share that would. The step limit asks that it be at most 1; (18) itself counts every face of a cell.
 pub fn leaving(card: &Card, water: &Water) -> f64 {
     let seconds = f64::from(card.dt) / 1_000.0;
     let share = |i: usize, j: usize| {

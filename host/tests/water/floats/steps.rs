@@ -111,7 +111,7 @@ fn the_step_limit() {
         }
     });
     println!("floats, the step limit: {} kept, {} broken", told[0], told[1]);
-    assert!(told.iter().all(|&times| times > 300) || crate::trials::single());
+    assert!(told.iter().all(|&times| times > 200) || crate::trials::single());
 }
 
 /// A metre and more of water everywhere: here the roundings are all that is left, a few µm and µm/s.

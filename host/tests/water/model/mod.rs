@@ -1,4 +1,5 @@
-//! Document 01 said a second time: the whole product as plain Rust, slow and literal, written from the document alone.
+//! Document 01 said a second time, with the requests of document 02 that have landed: the whole product as plain Rust, slow and
+//! literal, written from the documents alone.
 //!
 //! Each call here has the library's shape: it takes the lists as they are lent, leaves in them what the document says, and returns
 //! what the document says. Numbers are i128, so that no formula can overflow; the tests compare every answer and every element.

@@ -146,7 +146,7 @@ fn the_limit_counts_dry_cells() {
     assert_eq!(dry(1_000_001), 4);
 }
 
-/// The look meets a breaker in any cell: each inner face in turn is too fast.
+/// The look meets a breaker in any cell: each inner face in turn is too fast, out of one of its cells and out of the other.
 #[test]
 fn the_limit_is_looked_at_in_every_cell() {
     for (columns, rows) in [(2, 1), (1, 2), (5, 4), (128, 2), (2, 128)] {
@@ -154,16 +154,21 @@ fn the_limit_is_looked_at_in_every_cell() {
         let site = Wild::empty(card);
         for j in 0..rows {
             for i in 1..columns {
-                assert_eq!(step_with(&site, site.east(i, j), 100_001), 4);
-                assert_eq!(step_with(&site, site.east(i, j), -100_000), 0);
+                on_both_sides(&site, site.east(i, j));
             }
         }
         for j in 1..rows {
             for i in 0..columns {
-                assert_eq!(step_with(&site, site.north(i, j), -100_001), 4);
-                assert_eq!(step_with(&site, site.north(i, j), 100_000), 0);
+                on_both_sides(&site, site.north(i, j));
             }
         }
+    }
+}
+
+fn on_both_sides(site: &Wild, place: usize) {
+    for way in [1, -1] {
+        assert_eq!(step_with(site, place, way * 100_001), 4, "word {place}");
+        assert_eq!(step_with(site, place, way * 100_000), 0, "word {place}");
     }
 }
 

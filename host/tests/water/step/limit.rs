@@ -45,7 +45,7 @@ fn number_of_cell(columns: u32, rows: u32, cell: (u32, u32), out: [i32; 4]) -> u
     number(&site)
 }
 
-/// One face out, on each side of a cell; the others stand still, or let in as much as the cells behind them stand.
+/// One face out, on each side of a cell; the others stand still, or let in up to what any cell behind them stands.
 #[test]
 fn one_face_out() {
     for side in 0..4 {
@@ -88,7 +88,7 @@ fn two_faces() {
     }
 }
 
-/// A cell in the middle with each face still, in or out: what lies over the limit is the sum of what points out.
+/// A cell in the middle with each face still, in or out: what counts against the limit is the sum of what points out.
 #[test]
 fn every_way_of_four_faces() {
     for pattern in 0..81 {
@@ -126,7 +126,7 @@ fn corners() {
     }
 }
 
-/// Straight channels of every length, and a ring round a middle cell: each cell takes in on one side and lets out on another.
+/// Straight channels of several lengths, and a ring round a middle cell: each cell takes in on one side and lets out on another.
 #[test]
 fn channels() {
     for length in [2, 3, 4, 16, 128] {
