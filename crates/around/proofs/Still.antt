@@ -13,7 +13,7 @@ use Rattle.rules.specs.declared.Card.{Card}
 use Rattle.rules.specs.declared.Face.{Face}
 use Rattle.rules.specs.Grid.{Field}
 use Rattle.rules.specs.Site.{readGround, readState}
-use Rattle.rules.specs.Step.{ownShare, outAhead, outBehind, outAbove, outBelow, positive, brought, carried, rise, slope, newVelocity}
+use Rattle.rules.specs.Step.{forward, ownShare, outAhead, outBehind, outAbove, outBelow, positive, brought, carried, rise, slope, newVelocity}
 use Rattle.layout.specs.Ways.{forth}
 use Rattle.still.specs.Rows.{CellsStill}
 use Rattle.still.proofs.Rows.{near-still, far-still}
@@ -36,14 +36,19 @@ record Still (f : Face) : Type 0 where
   pub belowK : f .belowK ≡ pos 0
   pub belowL : f .belowL ≡ pos 0
 
+-- no flow brings nothing
+none-brought : (v : ℤ) → brought (pos 0) v ≡ pos 0
+unfolding brought forward positive
+none-brought v = zero-*ℤ v
+
 module _ {f : Face} (s : Still f) where
   still-carried : carried f ≡ pos 0
-  unfolding carried brought outAhead outBehind outAbove outBelow positive
-  still-carried = rw (s .u, s .own, s .ahead, s .behind, s .aboveK, s .aboveL, s .belowK, s .belowL, *ℤ-zero, zero-*ℤ (f .uAhead), zero-*ℤ (f .uBehind), zero-*ℤ (f .uAbove), zero-*ℤ (f .uBelow))
+  unfolding carried outAhead outBehind outAbove outBelow
+  still-carried = rw (s .u, s .own, s .ahead, s .behind, s .aboveK, s .aboveL, s .belowK, s .belowL, *ℤ-zero, none-brought (f .uAhead), none-brought (f .uBehind), none-brought (f .uAbove), none-brought (f .uBelow))
 
   -- what stays is all that there is
   share-is : T (leZ (pos 0) (f .oldK)) → T (leZ (pos 0) (f .oldL)) → leZ (pos 0) (ownShare f) ≡ true
-  unfolding ownShare outAhead outBehind outAbove outBelow positive
+  unfolding ownShare outAhead outBehind outAbove outBelow forward positive
   share-is p q = rw (s .own, s .ahead, s .behind, s .aboveK, s .aboveL, s .belowK, s .belowL, +ℤ-idr) (true-of _ (leZ-add (pos 0) (f .oldK) (pos 0) (f .oldL) p q))
 
 all-still : (g h : Field) (east : Bool) (i j : ℕ) → Still (stillFace g h east i j)

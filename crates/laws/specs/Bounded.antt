@@ -8,7 +8,7 @@ use lib.IntN.{ℤ, pos, negsuc, negℤ, natAbs, _+ℤ_, _-ℤ_, +ℤ-negℤ-canc
 use lib.Signed.{leZ}
 use Rattle.rules.specs.declared.Card.{Card}
 use Rattle.rules.specs.Site.{Water, heightFits, heightsFit}
-use Rattle.rules.specs.Step.{eastTransfer, northTransfer, forward, backward, withinLimit, limitKept, newHeight}
+use Rattle.rules.specs.Step.{walled, eastTransfer, northTransfer, forward, backward, withinLimit, limitKept, newHeight}
 use Rattle.laws.specs.Tests.{and-left, and-right}
 use Rattle.laws.specs.Numbers.{leZ-trans, leZ-refl, leZ-add, leZ-neg}
 use Rattle.laws.specs.Sizes.{Within, within-order}
@@ -61,6 +61,14 @@ not-below c w i j hx hy h l =
     (at-least-backward ts))
     (leZ-neg tn (pos qn) (at-most-forward tn)))
 
+-- ---- what crosses the faces of a row is within N where what leaves each inner face's K, and its L, is
+
+row-within : {N : ℕ} (n : ℕ) (f : ℕ → ℤ) → ((k : ℕ) → suc k < n → forward (walled n f (suc k)) ≤ N) → ((k : ℕ) → suc k < n → backward (walled n f (suc k)) ≤ N)
+    → (k : ℕ) → Within N (walled n f k)
+row-within {N} n f a b =
+    everywhere n f (λ k x. Within N x) (λ k. record { size = zero-le })
+    (λ k h. subst (Within N) (on-inner n f k h) (within-ways (walled n f (suc k)) (a k h) (b k h)))
+
 -- ---- a site whose heights fit and which keeps the limit
 
 module _ (c : Card) (w : Water) (sideX : 0 < c .dx) (sideY : 0 < c .dy) (depths : T (heightsFit c w)) (limit : T (limitKept c w)) where
@@ -85,21 +93,11 @@ module _ (c : Card) (w : Water) (sideX : 0 < c .dx) (sideY : 0 < c .dy) (depths 
   -- what crosses a face leaves its K or its L
   pub east-within : (i j : ℕ) → j < c .rows → Within 50000000 (eastTransfer c w i j)
   unfolding eastTransfer leaving
-  east-within i j hj =
-      everywhere (c .columns) _ (λ k x. Within 50000000 x) (λ k. record { size = zero-le })
-      (λ k h.
-      subst (Within 50000000) (on-inner (c .columns) _ k h)
-      (within-ways (eastTransfer c w (suc k) j) (omega (arith, all-leaving k j (omega arith) hj)) (omega (arith, all-leaving (suc k) j h hj))))
-      i
+  east-within i j hj = row-within (c .columns) _ (λ k h. omega (arith, all-leaving k j (omega arith) hj)) (λ k h. omega (arith, all-leaving (suc k) j h hj)) i
 
   pub north-within : (i j : ℕ) → i < c .columns → Within 50000000 (northTransfer c w i j)
   unfolding northTransfer leaving
-  north-within i j hi =
-      everywhere (c .rows) _ (λ k x. Within 50000000 x) (λ k. record { size = zero-le })
-      (λ k h.
-      subst (Within 50000000) (on-inner (c .rows) _ k h)
-      (within-ways (northTransfer c w i (suc k)) (omega (arith, all-leaving i k hi (omega arith))) (omega (arith, all-leaving i (suc k) hi h))))
-      j
+  north-within i j hi = row-within (c .rows) _ (λ k h. omega (arith, all-leaving i k hi (omega arith))) (λ k h. omega (arith, all-leaving i (suc k) hi h)) j
 
   pub new-low : (i j : ℕ) → i < c .columns → j < c .rows → T (leZ (pos 0) (newHeight c w i j))
   new-low i j hi hj = not-below c w i j sideX sideY (low i j hi hj) (within-limit i j hi hj)

@@ -7,7 +7,7 @@ use lib.IntN.{ℤ, pos, negsuc, natAbs}
 use lib.Dec.{T, leb→le}
 use Rattle.rules.specs.declared.Card.{Card}
 use Rattle.rules.specs.Site.{Water}
-use Rattle.rules.specs.Step.{transfer, eastTransfer, northTransfer, forward, backward, withinLimit}
+use Rattle.rules.specs.Step.{walled, transfer, eastTransfer, northTransfer, forward, backward, withinLimit}
 use Rattle.laws.specs.Walls.{behind-has, everywhere}
 use Rattle.laws.specs.Outward.{forward-neg, backward-neg}
 
@@ -64,44 +64,38 @@ crossed-backward dt d hK hL (pos zero) = zero-le
 crossed-backward dt d hK hL (pos (suc n)) = zero-le
 crossed-backward dt d hK hL (negsuc n) = le-of-eq (backward-neg (pos (natAbs hL * suc n * dt / (1000 * d))))
 
--- ---- the four faces of a cell
+-- ---- along a row or a column of n cells with heights h and velocities u: what crosses out of its cell i over the far face, and over the near one
 
-module _ (c : Card) (w : Water) (i j : ℕ) where
-  -- what the cell sends over a face at this speed, d being dx or dy by the face's direction
-  abbrev sends : (d speed : ℕ) → ℕ
-  sends d speed = natAbs (w .height i j) * speed * c .dt / (1000 * d)
+module _ (dt d n : ℕ) (h u : ℕ → ℤ) where
+  abbrev crossing : ℕ → ℤ
+  crossing = walled n (λ k. transfer dt d (h k) (h (suc k)) (u (suc k)))
 
-  over-east : forward (eastTransfer c w (suc i) j) ≤ sends (c .dx) (forward (w .east (suc i) j))
-  unfolding eastTransfer forward
-  over-east =
-      behind-has (c .columns) _ (λ x. forward x ≤ sends (c .dx) (forward (w .east (suc i) j))) zero-le i
-      (λ h. crossed-forward (c .dt) (c .dx) (w .height i j) (w .height (suc i) j) (w .east (suc i) j))
+  -- what cell i sends over a face at this speed
+  abbrev sends : (i speed : ℕ) → ℕ
+  sends i speed = natAbs (h i) * speed * dt / (1000 * d)
 
-  over-north : forward (northTransfer c w i (suc j)) ≤ sends (c .dy) (forward (w .north i (suc j)))
-  unfolding northTransfer forward
-  over-north =
-      behind-has (c .rows) _ (λ x. forward x ≤ sends (c .dy) (forward (w .north i (suc j)))) zero-le j
-      (λ h. crossed-forward (c .dt) (c .dy) (w .height i j) (w .height i (suc j)) (w .north i (suc j)))
+  over-far : (i : ℕ) → forward (crossing (suc i)) ≤ sends i (forward (u (suc i)))
+  unfolding forward
+  over-far i =
+      behind-has n _ (λ x. forward x ≤ sends i (forward (u (suc i)))) zero-le i (λ l. crossed-forward dt d (h i) (h (suc i)) (u (suc i)))
 
-  over-west : backward (eastTransfer c w i j) ≤ sends (c .dx) (backward (w .east i j))
-  unfolding eastTransfer backward
-  over-west =
-      everywhere (c .columns) _ (λ k x. backward x ≤ natAbs (w .height k j) * backward (w .east k j) * c .dt / (1000 * c .dx)) (λ k. zero-le)
-      (λ k h. crossed-backward (c .dt) (c .dx) (w .height k j) (w .height (suc k) j) (w .east (suc k) j))
-      i
+  over-near : (i : ℕ) → backward (crossing i) ≤ sends i (backward (u i))
+  unfolding backward
+  over-near =
+      everywhere n _ (λ k x. backward x ≤ sends k (backward (u k))) (λ k. zero-le) (λ k l. crossed-backward dt d (h k) (h (suc k)) (u (suc k)))
 
-  over-south : backward (northTransfer c w i j) ≤ sends (c .dy) (backward (w .north i j))
-  unfolding northTransfer backward
-  over-south =
-      everywhere (c .rows) _ (λ k x. backward x ≤ natAbs (w .height i k) * backward (w .north i k) * c .dt / (1000 * c .dy)) (λ k. zero-le)
-      (λ k h. crossed-backward (c .dt) (c .dy) (w .height i k) (w .height i (suc k)) (w .north i (suc k)))
-      j
+-- ---- the law
 
-  -- ---- the law
-
-  pub leaves-at-most : 0 < c .dx → 0 < c .dy → T (withinLimit c w i j) → leaving c w i j ≤ natAbs (w .height i j)
-  unfolding leaving withinLimit
-  leaves-at-most sideX sideY l =
-      le-trans (add-le-add (add-le-add (add-le-add over-west over-east) over-south) over-north)
-      (spent (natAbs (w .height i j)) (c .dt) (c .dx) (c .dy) (backward (w .east i j)) (forward (w .east (suc i) j)) (backward (w .north i j)) (forward (w .north i (suc j))) sideX sideY
-      (leb→le _ _ l))
+pub leaves-at-most : (c : Card) (w : Water) (i j : ℕ) → 0 < c .dx → 0 < c .dy → T (withinLimit c w i j) → leaving c w i j ≤ natAbs (w .height i j)
+unfolding leaving withinLimit eastTransfer northTransfer
+leaves-at-most c w i j sideX sideY l =
+    le-trans
+    (add-le-add
+    (add-le-add
+    (add-le-add
+    (over-near (c .dt) (c .dx) (c .columns) (λ k. w .height k j) (λ k. w .east k j) i)
+    (over-far (c .dt) (c .dx) (c .columns) (λ k. w .height k j) (λ k. w .east k j) i))
+    (over-near (c .dt) (c .dy) (c .rows) (w .height i) (w .north i) j))
+    (over-far (c .dt) (c .dy) (c .rows) (w .height i) (w .north i) j))
+    (spent (natAbs (w .height i j)) (c .dt) (c .dx) (c .dy) (backward (w .east i j)) (forward (w .east (suc i) j)) (backward (w .north i j)) (forward (w .north i (suc j))) sideX sideY
+    (leb→le _ _ l))

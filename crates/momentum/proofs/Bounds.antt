@@ -1,16 +1,17 @@
 -- How large the flows and what they carry are, by the ranges of what they are made of.
-use Prim.Native.Nat.{ℕ, _*_, zero-le}
-use lib.IntN.{ℤ, pos, negsuc}
+use Prim.Native.Nat.{ℕ, _*_}
+use native.Mathlib.Nat.{le-trans}
+use lib.IntN.{ℤ}
 use Rattle.rules.specs.declared.Face.{Face}
 use Rattle.rules.specs.Step.{outAhead, outBehind, outAbove, outBelow, positive, ownShare, brought, carried}
 use Rattle.laws.specs.Sizes.{Within, within-neg, within-add, within-sub, within-mul}
+use Rattle.laws.specs.Outward.{forward-size}
 use Rattle.face.proofs.Bounds.{height-within}
 use Rattle.momentum.specs.Fits.{FaceFits}
 
 pub positive-within : {N : ℕ} {x : ℤ} → Within N x → Within N (positive x)
 unfolding positive
-positive-within {x = pos n} r = r
-positive-within {x = negsuc n} r = record { size = zero-le }
+positive-within {x} r = record { size = le-trans (forward-size x) (r .size) }
 
 pub brought-within : {N M : ℕ} {out v : ℤ} → Within N out → Within M v → Within (N * M) (brought out v)
 unfolding brought

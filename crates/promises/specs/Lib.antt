@@ -2,7 +2,6 @@ pub mod Promises
 pub mod Demand3
 pub mod TakenTwice
 pub mod NeverInTheMiddle
-pub mod Narrowed
 pub mod NothingLost
 pub mod Endings
 pub mod Slices

@@ -19,7 +19,7 @@ use Rattle.rules.specs.Starred.{oneRow, flat, two, passing}
 use Rattle.laws.specs.Grids.{allAt-at, allAt-intro}
 use Rattle.laws.specs.Outward.{forward-size, backward-size}
 use Rattle.laws.specs.Runs.{begun}
-use Rattle.promises.specs.Narrowed.{Narrows, done-not, narrowed}
+use Rattle.laws.specs.Follows.{Follows, follows}
 use Rattle.promises.specs.TheCall.{call-steps, call-leaves, call-runs}
 
 -- ---- Document 01's limit, (18) as it stands: every face of a cell counts, whichever way its velocity points
@@ -76,21 +76,32 @@ pub number-stays : (c : Card) (g s : List ℤ) → (oldNumber c g s ≡ 4 → �
 unfolding oldNumber stepNumber stepNumberBy number
 number-stays c g s = answer-stays (oldLimitKept c (readState c s)) (limitKept c (readState c s)) _ _ _ (site-keeps c (readState c s))
 
-narrows : (c : Card) (g : List ℤ) → Narrows 4 (oldStep c g) (siteStep c g)
-narrows c g = record { refusal = omega arith; numbers = number-stays c g; states = λ s. refl; peaks = λ s. refl }
+-- a step that was done was not refused by 4
+not-four : {k : ℕ} → k ≡ 0 → k ≡ 4 → ⊥
+not-four z e = omega arith
+
+-- the step follows the old one, of every number but 4
+follows-old : (c : Card) (g : List ℤ) → Follows (λ s. Unit {0}) (λ k. k ≡ 4 → ⊥) (λ s. s) (oldStep c g) (siteStep c g)
+follows-old c g = record {
+  kept = λ s p e. tt;
+  done = not-four refl;
+  numbers = λ s p. number-stays c g s;
+  states = λ s p e. refl;
+  peaks = λ s p. refl;
+}
 
 -- ---- The theorems
 
 pub step-stays : (c : Card) (g s next : List ℤ) → check c g s ≡ 0 → length next ≡ length s → oldNumber c g s ≡ 0 → StillAccepted c g s next
 unfolding firstRefusal
 step-stays c g s next e l z =
-    let n : stepNumber c g s ≡ 0 = number-stays c g s (done-not (omega arith) z) ∙ z in
+    let n : stepNumber c g s ≡ 0 = number-stays c g s (not-four z) ∙ z in
     let a : stepAnswer c g s next ≡ 0 = call-steps c g s next l ∙ rw (e, n) in
     record { number = a; state = call-leaves c g s next a }
 
 pub run-stays : (c : Card) (g s scratch : List ℤ) → check c g s ≡ 0 → length scratch ≡ length s → (runFrom (oldStep c g) (c .steps) s .tally .reason ≡ 4 → ⊥)
     → runOutcome c g s scratch ≡ runFrom (oldStep c g) (c .steps) s
-run-stays c g s scratch e l h = call-runs c g s scratch l ∙ begun c g s e ∙ narrowed (narrows c g) (c .steps) s h
+run-stays c g s scratch e l h = call-runs c g s scratch l ∙ begun c g s e ∙ follows (follows-old c g) (c .steps) s tt h
 
 -- ---- On numbers of `Starred`: the old limit stood just as much where one face moves, and refused the 3×1 site with both inner faces at 6,000,000
 

@@ -22,10 +22,11 @@ pub record Lawful (t : Turn) : Type 0 where
   pub peaks : (c : Card) (s : List ℤ) → peak (t .card c) (t .state c s) ≡ peak c s
 
 module _ (t : Turn) (𝓛 : Lawful t) where
-  turned-follows : (c : Card) (g : List ℤ) → Follows (λ s. check c g s ≡ 0) (t .state c) (siteStep c g) (siteStep (t .card c) (t .ground c g))
+  turned-follows : (c : Card) (g : List ℤ) → Follows (λ s. check c g s ≡ 0) (λ k. Unit {0}) (t .state c) (siteStep c g) (siteStep (t .card c) (t .ground c g))
   turned-follows c g = record {
     kept = keeps c g;
-    numbers = λ s e. 𝓛 .numbers c g s;
+    done = tt;
+    numbers = λ s e a. 𝓛 .numbers c g s;
     states = λ s e z. 𝓛 .states c g s;
     peaks = λ s e. 𝓛 .peaks c s;
   }
@@ -34,7 +35,7 @@ module _ (t : Turn) (𝓛 : Lawful t) where
   obeys c g s e =
       begun (t .card c) (t .ground c g) (t .state c s) (𝓛 .checks c g s e)
       ∙ ap (λ (n : ℕ). runFrom (siteStep (t .card c) (t .ground c g)) n (t .state c s)) (𝓛 .steps c)
-      ∙ follows (turned-follows c g) (c .steps) s e
+      ∙ follows (turned-follows c g) (c .steps) s e tt
       ∙ ap (turned t c) (sym (begun c g s e))
 
 -- one turn, then another

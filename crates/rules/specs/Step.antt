@@ -35,7 +35,7 @@ northTransfer c w i j = walled (c .rows) (λ k. transfer (c .dt) (c .dy) (w .hei
 -- ---- Step limit, (18) multiplied out, a face counting only in the cell that its velocity points out of (document 02, [9]):
 -- dt · ((west, if it points west, plus east, if it points east) · dy + (south, if it points south, plus north, if it points north) · dx) ≤ 1000 · dx · dy
 
--- the size of a velocity that points east or north, else 0; and so of what crosses a face
+-- the size of a velocity that points east or north, else 0; and so of what crosses a face, or flows over a dual edge
 unfoldable pub forward : ℤ → ℕ
 forward (pos n) = n
 forward (negsuc n) = 0
@@ -150,9 +150,9 @@ outAbove f = f .aboveK +ℤ f .aboveL
 unfoldable pub outBelow : Face → ℤ
 outBelow f = negℤ (f .belowK +ℤ f .belowL)
 
+-- a flow if it is positive, which is out of the face's cell, else 0
 unfoldable pub positive : ℤ → ℤ
-positive (pos n) = pos n
-positive (negsuc n) = pos 0
+positive flow = pos (forward flow)
 
 -- own share: H = hK + hL less all flow out
 unfoldable pub ownShare : Face → ℤ

@@ -1,12 +1,11 @@
 -- `keeps_limit`: what each face counts, two sums, and products that fit.
 use Prim.Native.Nat.{ℕ, _+_, _*_, _≤_}
-use mathlib.Core.Path.{_≡_, ap, _∙_}
+use mathlib.Core.Path.{_≡_, _∙_}
 use mathlib.Core.Bool.{Bool}
 use native.Mathlib.Nat.{le-trans, le-of-eq, add-le-add, mul-le-mul}
 use native.Mathlib.Omega.{arith}
 use borrow.Author.Needs.{needs}
-use lib.IntN.{ℤ, pos}
-use lib.Signed.{leZ, ltZ}
+use lib.IntN.{ℤ}
 use mir.Syntax.{w32}
 use mir.Val.{toZ, ofZ}
 use Rattle.rules.specs.Step.{forward, backward}
@@ -24,37 +23,26 @@ start c = c .before .before
 abbrev half : tie.After-counted4 → tie.After-counted2
 half c = c .before .before
 
--- what a face counts: at most its speed, whatever was asked of it; and asked whether it points out (a still one may count as either), what the limit counts
-abbrev word : ℤ → ℤ
-word z = toZ w32 (ofZ w32 z)
+-- a velocity, as it is read back from a local, loses nothing
+same : {v : ℤ} → Speed v → toZ w32 (ofZ w32 v) ≡ v
+same fits = value (int {w = w32} fits tt)
 
-module _ {v : ℤ} (fits : Speed v) where
-  most : (n : ℕ) (out : Bool) → n ≡ counts out (word v) → n ≤ 20000000
-  most n out e = le-trans (le-of-eq e) (le-trans (counts-most out (word v)) (within (int {w = w32} fits tt) .size))
-
-  out-backward : counts (ltZ (word v) (pos 0)) (word v) ≡ backward v
-  out-backward = counts-backward (word v) ∙ ap backward (value (int {w = w32} fits tt))
-
-  out-not-forward : counts (leZ (word v) (pos 0)) (word v) ≡ backward v
-  out-not-forward = counts-not-forward (word v) ∙ ap backward (value (int {w = w32} fits tt))
-
-  out-forward : counts (ltZ (pos 0) (word v)) (word v) ≡ forward v
-  out-forward = counts-forward (word v) ∙ ap forward (value (int {w = w32} fits tt))
-
-  out-not-backward : counts (leZ (pos 0) (word v)) (word v) ≡ forward v
-  out-not-backward = counts-not-backward (word v) ∙ ap forward (value (int {w = w32} fits tt))
-
+-- what each face counts, asked whether it points out (a still one may count as either), is what the limit counts
 west : (c : tie.After-counted) → c .counted .result ≡ backward (c .before .args .west)
-west c = c .counted .ensures ∙ search (out-backward, out-not-forward)
+west c = c .counted .ensures ∙ rw (same (c .before .pre .west)) (search (counts-backward, counts-not-forward))
 
 east : (c : tie.After-counted2) → c .counted2 .result ≡ forward (start c .args .east)
-east c = c .counted2 .ensures ∙ search (out-forward, out-not-backward)
+east c = c .counted2 .ensures ∙ rw (same (start c .pre .east)) (search (counts-forward, counts-not-backward))
 
 south : (c : tie.After-counted3) → c .counted3 .result ≡ backward (start (c .before) .args .south)
-south c = c .counted3 .ensures ∙ search (out-backward, out-not-forward)
+south c = c .counted3 .ensures ∙ rw (same (start (c .before) .pre .south)) (search (counts-backward, counts-not-forward))
 
 north : (c : tie.After-counted4) → c .counted4 .result ≡ forward (start (half c) .args .north)
-north c = c .counted4 .ensures ∙ search (out-forward, out-not-backward)
+north c = c .counted4 .ensures ∙ rw (same (start (half c) .pre .north)) (search (counts-forward, counts-not-backward))
+
+-- and at most its speed, whatever was asked
+most : {v : ℤ} → Speed v → (n : ℕ) (out : Bool) → n ≡ counts out (toZ w32 (ofZ w32 v)) → n ≤ 20000000
+most {v} fits n out e = le-trans (le-of-eq e) (le-trans (counts-most out (toZ w32 (ofZ w32 v))) (within (int {w = w32} fits tt) .size))
 
 -- bounds of the sums and the products
 west-east : (c : tie.After-counted2) → c .before .counted .result + c .counted2 .result ≤ 40000000
