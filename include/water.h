@@ -6,7 +6,7 @@
  *
  * Numbers: 0 done, 1 card out of range, 2 a list has the wrong length (or over 1,000 chambers), 3 a value out of range,
  * a wall velocity not 0 or a window edge not finite, 4 a cell breaks the step limit, 5 a new height exceeds 50,000,000,
- * 6 an own share is negative, 7 a new velocity is out of range, 8 the lent room is too short, 9 not a sheet of version 1.
+ * 7 a new velocity is out of range, 8 the lent room is too short, 9 not a sheet of version 1. 6 is unused: no site gives it.
  * The lowest number that applies is given; the sheet reader looks for 9 first.
  *
  * Step limit: dt*(we*dy + sn*dx) <= 1000*dx*dy in every cell, dry ones too, we being its west velocity if that points west plus
@@ -29,8 +29,8 @@
  *     water_depth_text         1,000        1,000     1,000
  *
  * Small is a site whose state has at most 3,136 words, as with 32 columns and 32 rows; where it has at most 800, as with 16 and 16,
- * water_step takes 9,000. Refused means with 1, 2 or 3, and by the sheet reader with 9 too: the 4 to 7 of a step or a run take what
- * the site takes.
+ * water_step takes 9,000. Refused means with 1, 2 or 3, and by the sheet reader with 9 too: the 4, 5 and 7 of a step or a run take
+ * what the site takes.
  */
 #ifndef WATER_H
 #define WATER_H
@@ -80,14 +80,14 @@ typedef struct {
 } WaterWrote;
 
 /* One step: reads ground and state and fills next, a list of the state's length.
- * Refused with 1 to 7: next is as lent. */
+ * Refused with 1 to 5 or 7: next is as lent. */
 uint32_t water_step(WaterCard card,
                     const int32_t *ground, size_t ground_length,
                     const int32_t *state, size_t state_length,
                     int32_t *next, size_t next_length);
 
 /* As many steps as the card wants, on state itself; scratch is a list of the state's length.
- * Reasons 1 to 3: steps 0, top 0, both lists as lent. Otherwise, whatever the reason (0 or 4 to 7), state holds the last accepted
+ * Reasons 1 to 3: steps 0, top 0, both lists as lent. Otherwise, whatever the reason (0, 4, 5 or 7), state holds the last accepted
  * state, scratch is all zero, and top is the greatest height in the starting state and each accepted one. */
 WaterTally water_run(WaterCard card,
                      const int32_t *ground, size_t ground_length,

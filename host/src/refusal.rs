@@ -2,7 +2,8 @@
 
 use std::fmt;
 
-/// A refusal, by the number that document 01 gives it ([`Refusal::number`]).
+/// A refusal, by the number that document 01 gives it ([`Refusal::number`]). 6 is unused: document 01 gave it to a negative own share, and
+/// no site has one (document 02, [7]).
 #[derive(Clone, Copy, Debug, PartialEq, Eq)]
 pub enum Refusal {
     /// 1: columns, rows, a side, dt or steps wanted outside its range
@@ -16,8 +17,6 @@ pub enum Refusal {
     StepLimit,
     /// 5: some new height exceeds 50,000,000
     TooHigh,
-    /// 6: some own share is negative
-    OwnShare,
     /// 7: some new velocity lies outside its range
     TooFast,
     /// 8: the lent room is too short, and how much is needed
@@ -35,7 +34,6 @@ impl Refusal {
             Refusal::Value => 3,
             Refusal::StepLimit => 4,
             Refusal::TooHigh => 5,
-            Refusal::OwnShare => 6,
             Refusal::TooFast => 7,
             Refusal::Room { .. } => 8,
             Refusal::Sheet => 9,
@@ -51,11 +49,10 @@ impl Refusal {
             3 => Some(Refusal::Value),
             4 => Some(Refusal::StepLimit),
             5 => Some(Refusal::TooHigh),
-            6 => Some(Refusal::OwnShare),
             7 => Some(Refusal::TooFast),
             8 => Some(Refusal::Room { needed }),
             9 => Some(Refusal::Sheet),
-            _ => unreachable!("the library gives 0 to 9, and gave {number}"),
+            _ => unreachable!("the library gives 0 to 5 and 7 to 9, and gave {number}"),
         }
     }
 }
@@ -68,7 +65,6 @@ impl fmt::Display for Refusal {
             Refusal::Value => f.write_str("a value outside its range, a wall velocity not 0, or a window edge not finite (3)"),
             Refusal::StepLimit => f.write_str("some cell breaks the step limit (4)"),
             Refusal::TooHigh => f.write_str("some new height exceeds 50,000,000 (5)"),
-            Refusal::OwnShare => f.write_str("some own share is negative (6)"),
             Refusal::TooFast => f.write_str("some new velocity lies outside its range (7)"),
             Refusal::Room { needed } => write!(f, "the lent room is too short, {needed} places are needed (8)"),
             Refusal::Sheet => f.write_str("not a sheet of version 1, or its length field is not the bytes given (9)"),

@@ -10,7 +10,7 @@ use lib.IntN.{ℤ}
 use lib.ListN.{length, drop}
 use Rattle.rules.specs.declared.Card.{Card}
 use Rattle.rules.specs.Site.{readGround, readState, stateLength}
-use Rattle.rules.specs.Step.{limitKept, newHeightsFit, sharesFit, newVelocity, newVelocitiesFit, answer, number, stepNumberBy, stepNumber, nextState}
+use Rattle.rules.specs.Step.{limitKept, newHeightsFit, newVelocity, newVelocitiesFit, answer, number, stepNumberBy, stepNumber, nextState}
 use Rattle.laws.specs.Reading.{Holds}
 use Rattle.laws.specs.Tested.{Filled}
 use Rattle.laws.specs.Facts.{Sound}
@@ -75,30 +75,19 @@ module _ {c : Card} {t : List ℤ} (s : List ℤ) (limit : limitKept c (readStat
   next-room b sound m long =
       record { flowing = record { sound = sound; limit = limit; heights = sym fit-is ∙ not-false fit b; tide = holds }; marked = m; long = long }
 
--- own shares and new velocities
-module _ {c : Card} {g s t : List ℤ} (flowing : Flowing c g s t) {shared : Bool} (looked : shared ≡ sharesFit c (readGround c g) (readState c s)) where
-  -- 6
-  pub share-broken : {m : List ℤ} → not shared ≡ true → Advanced c g s 6 m
+-- the new velocities
+module _ {c : Card} {g s t : List ℤ} (flowing : Flowing c g s t) {fast : Bool} {m : List ℤ} (filled : Filled (newVelocitiesFit newVelocity c (readGround c g) (readState c s)) (nextState c g s) fast m) where
+  -- 7
+  pub speed-broken : not fast ≡ true → Advanced c g s 7 m
   unfolding stepNumber stepNumberBy number answer
-  share-broken b =
-      let r : sharesFit c (readGround c g) (readState c s) ≡ false = sym looked ∙ not-true shared b in
-      record { number = rw (flowing .limit, flowing .heights, r); state = λ e. absurd (suc-ne-zero 5 e) }
+  speed-broken b =
+      let v : newVelocitiesFit newVelocity c (readGround c g) (readState c s) ≡ false = sym (filled .every-one) ∙ not-true fast b in
+      record { number = rw (flowing .limit, flowing .heights, v); state = λ e. absurd (suc-ne-zero 6 e) }
 
-  module _ (share : not shared ≡ false) {fast : Bool} {m : List ℤ} (filled : Filled (newVelocitiesFit newVelocity c (readGround c g) (readState c s)) (nextState c g s) fast m) where
-    shares-fit : sharesFit c (readGround c g) (readState c s) ≡ true
-    shares-fit = sym looked ∙ not-false shared share
-
-    -- 7
-    pub speed-broken : not fast ≡ true → Advanced c g s 7 m
-    unfolding stepNumber stepNumberBy number answer
-    speed-broken b =
-        let v : newVelocitiesFit newVelocity c (readGround c g) (readState c s) ≡ false = sym (filled .every-one) ∙ not-true fast b in
-        record { number = rw (flowing .limit, flowing .heights, shares-fit, v); state = λ e. absurd (suc-ne-zero 6 e) }
-
-    -- 0
-    pub all-kept : not fast ≡ false → Advanced c g s 0 m
-    unfolding stepNumber stepNumberBy number answer
-    all-kept b =
-        let yes : fast ≡ true = not-false fast b in
-        let v : newVelocitiesFit newVelocity c (readGround c g) (readState c s) ≡ true = sym (filled .every-one) ∙ yes in
-        record { number = rw (flowing .limit, flowing .heights, shares-fit, v); state = λ e. filled .is yes }
+  -- 0
+  pub all-kept : not fast ≡ false → Advanced c g s 0 m
+  unfolding stepNumber stepNumberBy number answer
+  all-kept b =
+      let yes : fast ≡ true = not-false fast b in
+      let v : newVelocitiesFit newVelocity c (readGround c g) (readState c s) ≡ true = sym (filled .every-one) ∙ yes in
+      record { number = rw (flowing .limit, flowing .heights, v); state = λ e. filled .is yes }

@@ -24,7 +24,7 @@ fn fill_next(
     velocities::passes::velocities(card, ground, state, tide, marks, &mut next[cells..])
 }
 
-// The second half of a step, once the tide is at hand: 6 or 7, or 0 and the next state.
+// The second half of a step, once the tide is at hand: 7, or 0 and the next state.
 fn move_on(
     card: Card,
     ground: &[i32],
@@ -36,16 +36,13 @@ fn move_on(
     requires { ⌜ NextRoom card (now ground) (now state) (now tide) (now marks) (now next) ⌝ }
     ensures { λ r. ⌜ Advanced card (now (ground .entry)) (now (state .entry)) r (now (next .exit)) ⌝ }
 {
-    if !shares::shares_fit(card, ground, state, tide, marks) {
-        return 6;
-    }
     if !fill_next(card, ground, state, tide, marks, next) {
         return 7;
     }
     0
 }
 
-// The step of a site that keeps the step limit: 5, 6 or 7, or 0 and the next state.
+// The step of a site that keeps the step limit: 5 or 7, or 0 and the next state.
 fn flow(
     card: Card,
     ground: &[i32],

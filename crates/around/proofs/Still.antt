@@ -1,19 +1,14 @@
--- Between two still rows of cells nothing crosses any face, so that a face there carries no momentum: its new velocity is that of the still face, and its own
--- share is all the water in its cells.
+-- Between two still rows of cells nothing crosses any face, so that a face there carries no momentum: its new velocity is that of the still face.
 use Prim.Native.Nat.{ℕ}
 use mathlib.Core.Path.{_≡_, _∙_, refl, sym}
-use mathlib.Core.Bool.{Bool, true, not}
+use mathlib.Core.Bool.{Bool, not}
 use mathlib.Core.List.{List}
-use lib.Dec.{T}
-use lib.IntN.{ℤ, pos, zero-*ℤ, *ℤ-zero, +ℤ-idr}
-use Rattle.laws.specs.Tests.{true-of}
-use Rattle.laws.specs.Numbers.{leZ-add}
-use lib.Signed.{leZ}
+use lib.IntN.{ℤ, pos, zero-*ℤ, *ℤ-zero}
 use Rattle.rules.specs.declared.Card.{Card}
 use Rattle.rules.specs.declared.Face.{Face}
 use Rattle.rules.specs.Grid.{Field}
 use Rattle.rules.specs.Site.{readGround, readState}
-use Rattle.rules.specs.Step.{forward, ownShare, outAhead, outBehind, outAbove, outBelow, positive, brought, carried, rise, slope, newVelocity}
+use Rattle.rules.specs.Step.{forward, outAhead, outBehind, outAbove, outBelow, positive, brought, carried, rise, slope, newVelocity}
 use Rattle.layout.specs.Ways.{forth}
 use Rattle.still.specs.Rows.{CellsStill}
 use Rattle.still.proofs.Rows.{near-still, far-still}
@@ -23,7 +18,6 @@ use Rattle.around.specs.Faces.{AtFace, innerFace}
 use Rattle.around.specs.Still.{stillFace}
 use Rattle.around.proofs.Around.{cell-k, cell-l, gathered-is}
 use Rattle.around.proofs.Flows.{tide-height}
-use Rattle.around.proofs.Ranges.{face-fits}
 
 -- a face that has no velocity, around which nothing crosses
 record Still (f : Face) : Type 0 where
@@ -45,11 +39,6 @@ module _ {f : Face} (s : Still f) where
   still-carried : carried f ≡ pos 0
   unfolding carried outAhead outBehind outAbove outBelow
   still-carried = rw (s .u, s .own, s .ahead, s .behind, s .aboveK, s .aboveL, s .belowK, s .belowL, *ℤ-zero, none-brought (f .uAhead), none-brought (f .uBehind), none-brought (f .uAbove), none-brought (f .uBelow))
-
-  -- what stays is all that there is
-  share-is : T (leZ (pos 0) (f .oldK)) → T (leZ (pos 0) (f .oldL)) → leZ (pos 0) (ownShare f) ≡ true
-  unfolding ownShare outAhead outBehind outAbove outBelow forward positive
-  share-is p q = rw (s .own, s .ahead, s .behind, s .aboveK, s .aboveL, s .belowK, s .belowL, +ℤ-idr) (true-of _ (leZ-add (pos 0) (f .oldK) (pos 0) (f .oldL) p q))
 
 all-still : (g h : Field) (east : Bool) (i j : ℕ) → Still (stillFace g h east i j)
 unfolding stillFace
@@ -79,9 +68,6 @@ module _ {c : Card} {g s t : List ℤ} {east : Bool} {i j : ℕ} (a : AtFace c g
         belowL = over-still c w (not east) _ _ (near-still rowL l (not east));
       }
 
-  inner-still : Still (innerFace c (readGround c g) (readState c s) east i j)
-  inner-still = rw (← gathered-is c (readGround c g) (readState c s) east i j) gathered-still
-
   abbrev height : Field
   height = readState c t .height
 
@@ -99,6 +85,3 @@ module _ {c : Card} {g s t : List ℤ} {east : Bool} {i j : ℕ} (a : AtFace c g
       refl
       refl
       (still-carried (all-still (readGround c g) height east i j) ∙ sym (still-carried gathered-still)))
-
-  pub still-share : leZ (pos 0) (ownShare (innerFace c (readGround c g) (readState c s) east i j)) ≡ true
-  still-share = let r = face-fits a in share-is inner-still (r .oldK .low) (r .oldL .low)

@@ -1,4 +1,5 @@
--- What a step writes fits a word, from the law of the step limit alone (`leaves-at-most`): a new height is at least 0, and a transfer at most a height.
+-- What a step writes fits a word, from the law of the step limit alone (`leaves-at-most`): a new height is at least 0, a transfer at most a height, and no own share
+-- is negative.
 use Prim.Native.Nat.{ℕ, suc, _+_, _-_, _≤_, _<_, zero-le}
 use mathlib.Core.Path.{_≡_, refl, ap, _∙_, subst}
 use native.Mathlib.Nat.{le-trans}
@@ -7,8 +8,10 @@ use lib.Dec.{T, le→leb}
 use lib.IntN.{ℤ, pos, negsuc, negℤ, natAbs, _+ℤ_, _-ℤ_, +ℤ-negℤ-cancel}
 use lib.Signed.{leZ}
 use Rattle.rules.specs.declared.Card.{Card}
+use Rattle.rules.specs.Grid.{Field}
 use Rattle.rules.specs.Site.{Water, heightFits, heightsFit}
-use Rattle.rules.specs.Step.{walled, eastTransfer, northTransfer, forward, backward, withinLimit, limitKept, newHeight}
+use Rattle.rules.specs.Step.{walled, eastTransfer, northTransfer, forward, backward, withinLimit, limitKept, newHeight, eastFace, northFace, ownShare}
+use Rattle.rules.proofs.Shares.{share-low}
 use Rattle.laws.specs.Tests.{and-left, and-right}
 use Rattle.laws.specs.Numbers.{leZ-trans, leZ-refl, leZ-add, leZ-neg}
 use Rattle.laws.specs.Sizes.{Within, within-order}
@@ -87,8 +90,11 @@ module _ (c : Card) (w : Water) (sideX : 0 < c .dx) (sideY : 0 < c .dy) (depths 
   unfolding limitKept
   within-limit i j hi hj = allAt-at (c .columns) (c .rows) (withinLimit c w) limit i j hi hj
 
+  cell-leaves : (i j : ℕ) → i < c .columns → j < c .rows → leaving c w i j ≤ natAbs (w .height i j)
+  cell-leaves i j hi hj = leaves-at-most c w i j sideX sideY (within-limit i j hi hj)
+
   all-leaving : (i j : ℕ) → i < c .columns → j < c .rows → leaving c w i j ≤ 50000000
-  all-leaving i j hi hj = le-trans (leaves-at-most c w i j sideX sideY (within-limit i j hi hj)) (old-within i j hi hj .size)
+  all-leaving i j hi hj = le-trans (cell-leaves i j hi hj) (old-within i j hi hj .size)
 
   -- what crosses a face leaves its K or its L
   pub east-within : (i j : ℕ) → j < c .rows → Within 50000000 (eastTransfer c w i j)
@@ -101,3 +107,17 @@ module _ (c : Card) (w : Water) (sideX : 0 < c .dx) (sideY : 0 < c .dy) (depths 
 
   pub new-low : (i j : ℕ) → i < c .columns → j < c .rows → T (leZ (pos 0) (newHeight c w i j))
   new-low i j hi hj = not-below c w i j sideX sideY (low i j hi hj) (within-limit i j hi hj)
+
+  -- an own share loses what leaves K and what leaves L
+  module _ (g : Field) where
+    pub east-share : (i j : ℕ) → suc i < c .columns → j < c .rows → T (leZ (pos 0) (ownShare (eastFace c g w i j)))
+    unfolding eastFace leaving
+    east-share i j hi hj =
+        let k : i < c .columns = omega arith in
+        share-low (eastFace c g w i j) (low i j k hj) (low (suc i) j hi hj) (cell-leaves i j k hj) (cell-leaves (suc i) j hi hj)
+
+    pub north-share : (i j : ℕ) → i < c .columns → suc j < c .rows → T (leZ (pos 0) (ownShare (northFace c g w i j)))
+    unfolding northFace leaving
+    north-share i j hi hj =
+        let k : j < c .rows = omega arith in
+        share-low (northFace c g w i j) (low i j hi k) (low i (suc j) hi hj) (omega (arith, cell-leaves i j hi k)) (omega (arith, cell-leaves i (suc j) hi hj))

@@ -1,8 +1,9 @@
 -- The numbers of the checks taken apart and put together: 0 exactly where every test passes.
-use Prim.Native.Nat.{ℕ}
+use Prim.Native.Nat.{ℕ, _≤_}
 use mathlib.Core.Path.{_≡_, refl, sym}
 use mathlib.Core.Bool.{Bool, true, false, _&&_}
 use native.Mathlib.Nat.{suc-ne-zero}
+use native.Mathlib.Omega.{arith}
 use lib.Dec.{T}
 use Rattle.rules.specs.Site.{firstOf}
 use Rattle.rules.specs.Step.{answer}
@@ -24,6 +25,14 @@ pub together : {a l v : Bool} → Passed a l v → firstOf a l v ≡ 0
 unfolding firstOf
 together p = rw (p .card, p .lengths, p .values)
 
+-- they give no number above 3
+pub at-most-3 : (a l v : Bool) → firstOf a l v ≤ 3
+unfolding firstOf
+at-most-3 false l v = omega arith
+at-most-3 true false v = omega arith
+at-most-3 true true false = omega arith
+at-most-3 true true true = omega arith
+
 -- a test for 2 that is made only where the card passes, since only then it can be made
 pub after-card : (one card two lengths values : Bool) → firstOf (one && card) ((card && two) && lengths) values ≡ firstOf (one && card) (two && lengths) values
 unfolding firstOf
@@ -38,18 +47,16 @@ by-front false l v k e h = sym e
 by-front true false v k e h = sym e
 by-front true true v k e h = absurd (h e)
 
--- ---- the four tests of a step
+-- ---- the three tests of a step
 
-pub record Accepted (l h s v : Bool) : Type 0 where
+pub record Accepted (l h v : Bool) : Type 0 where
   pub limit : T l
   pub heights : T h
-  pub shares : T s
   pub speeds : T v
 
-pub accepted : (l h s v : Bool) → answer l h s v ≡ 0 → Accepted l h s v
+pub accepted : (l h v : Bool) → answer l h v ≡ 0 → Accepted l h v
 unfolding answer
-accepted false h s v e = absurd (suc-ne-zero 3 e)
-accepted true false s v e = absurd (suc-ne-zero 4 e)
-accepted true true false v e = absurd (suc-ne-zero 5 e)
-accepted true true true false e = absurd (suc-ne-zero 6 e)
-accepted true true true true e = record { limit = tt; heights = tt; shares = tt; speeds = tt }
+accepted false h v e = absurd (suc-ne-zero 3 e)
+accepted true false v e = absurd (suc-ne-zero 4 e)
+accepted true true false e = absurd (suc-ne-zero 6 e)
+accepted true true true e = record { limit = tt; heights = tt; speeds = tt }

@@ -134,6 +134,12 @@ padded b n f low high k = go (ltb k n) refl
 abbrev pub Sound : Card → (ground state : List ℤ) → Type 0
 Sound c g s = Passed (cardFits c) (lengthsFit c g s) (valuesFit c (readGround c g) (readState c s))
 
+pub sound-depths : (c : Card) (g s : List ℤ) → Sound c g s → T (heightsFit c (readState c s))
+unfolding valuesFit
+sound-depths c g s sound =
+    let w = readState c s in
+    four-of (groundsFit c (readGround c g)) (heightsFit c w) (velocitiesFit c w) (wallsStill c w) (to-T (sound .values)) .two
+
 pub sound-facts : (c : Card) (g s : List ℤ) → Sound c g s → Fits c g s
 unfolding valuesFit readGround readState stateLength
 sound-facts c g s sound =

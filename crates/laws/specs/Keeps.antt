@@ -12,7 +12,7 @@ use lib.Dec.{T, eqb, eqb-refl}
 use Rattle.rules.specs.declared.Card.{Card}
 use Rattle.rules.specs.Grid.{Field, all}
 use Rattle.rules.specs.Site.{Water, cells, stateLength, readGround, readState, writeState, isZero, groundsFit, heightsFit, velocitiesFit, wallsStill, valuesFit, lengthsFit, check}
-use Rattle.rules.specs.Step.{Rule, walled, newHeight, eastFace, northFace, newVelocity, newEast, newNorth, next, limitKept, newHeightsFit, sharesFit, newVelocitiesFit, number, stepNumberBy, nextStateBy, stepNumber, nextState}
+use Rattle.rules.specs.Step.{Rule, walled, newHeight, eastFace, northFace, newVelocity, newEast, newNorth, next, limitKept, newHeightsFit, newVelocitiesFit, number, stepNumberBy, nextStateBy, stepNumber, nextState}
 use Rattle.laws.specs.Tests.{true-of, to-T, and-both, four-of, of-four}
 use Rattle.laws.specs.Grids.{all-intro, allAt-at, allAt-intro, all-same, allAt-same}
 use Rattle.laws.specs.States.{Alike, height-back, east-back, north-back, length-state}
@@ -65,7 +65,7 @@ module _ (rule : Rule) (c : Card) (g : Field) (w : Water) where
   next-values : 0 < c .dx → 0 < c .dy → T (valuesFit c g w) → number rule c g w ≡ 0 → T (valuesFit c g (next rule c g w))
   unfolding valuesFit velocitiesFit next number newVelocitiesFit
   next-values hx hy t e =
-      let a = accepted (limitKept c w) (newHeightsFit c w) (sharesFit c g w) (newVelocitiesFit rule c g w) e in
+      let a = accepted (limitKept c w) (newHeightsFit c w) (newVelocitiesFit rule c g w) e in
       let f = four-of (groundsFit c g) (heightsFit c w) (velocitiesFit c w) (wallsStill c w) t in
       of-four (groundsFit c g) (heightsFit c (next rule c g w)) (velocitiesFit c (next rule c g w)) (wallsStill c (next rule c g w)) (record {
         one = f .one;

@@ -1,6 +1,5 @@
--- A number by the way it points (`forward`, `backward`): turned round, and beside its size and its order. Of a velocity, and of what crosses a face.
-use Prim.Native.Nat.{ℕ, zero, suc, _≤_, zero-le}
-use mathlib.Core.Path.{_≡_, refl}
+-- A number by the way it points (`forward`, `backward`), beside its size and its order. Of a velocity, and of what crosses a face.
+use Prim.Native.Nat.{ℕ, suc, _≤_, zero-le}
 use native.Mathlib.Nat.{le-refl}
 use lib.IntN.{ℤ, pos, negsuc, negℤ, natAbs}
 use lib.Signed.{leZ}
@@ -8,19 +7,6 @@ use lib.Dec.{T, le→leb}
 use Rattle.rules.specs.Step.{forward, backward}
 use Rattle.laws.specs.Numbers.{leZ-refl}
 use Rattle.laws.specs.Sizes.{Within}
-
--- turned round
-pub forward-neg : (z : ℤ) → forward (negℤ z) ≡ backward z
-unfolding forward backward
-forward-neg (pos zero) = refl
-forward-neg (pos (suc n)) = refl
-forward-neg (negsuc n) = refl
-
-pub backward-neg : (z : ℤ) → backward (negℤ z) ≡ forward z
-unfolding forward backward
-backward-neg (pos zero) = refl
-backward-neg (pos (suc n)) = refl
-backward-neg (negsuc n) = refl
 
 -- either is at most the size, and where both are at most N the size is
 pub forward-size : (z : ℤ) → forward z ≤ natAbs z

@@ -30,11 +30,6 @@ unfolding back forth
 back-forth true n h = let k : 0 < n = h refl in omega arith
 back-forth false n h = refl
 
-pub back-again : (one : Bool) (n : ℕ) → back one (forth one n) ≡ n
-unfolding back forth
-back-again true n = omega arith
-back-again false n = refl
-
 -- a cell, and its near and its far face
 pub record Cell (c : Card) (i j : ℕ) : Type 0 where
   pub column : i < c .columns

@@ -47,7 +47,7 @@ fn positive(flow: i32) -> i32
 }
 
 // Own share: what stays in the face's cell.
-pub fn own_share(f: Face) -> i32
+fn own_share(f: Face) -> i32
     requires { ⌜ FaceFits f ⌝ }
     ensures { λ r. ⌜ r ≡ step.ownShare f ⌝ }
 {

@@ -3,6 +3,7 @@ pub mod Demand3
 pub mod TakenTwice
 pub mod NeverInTheMiddle
 pub mod NothingLost
+pub mod NoNegativeShare
 pub mod Endings
 pub mod Slices
 pub mod SiteSlices

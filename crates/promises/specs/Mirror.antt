@@ -14,7 +14,7 @@ use Rattle.rules.specs.Step.{Rule, eastTransfer, northTransfer, forward, backwa
 use Rattle.rules.proofs.Fair.{transfer-turned, endForEnd, sideForSide, Fair}
 use Rattle.laws.specs.Numbers.{sums}
 use Rattle.laws.specs.Walls.{wall, inside, walled-same, walled-mirror}
-use Rattle.laws.specs.Outward.{forward-neg, backward-neg}
+use Rattle.rules.proofs.Signs.{forward-neg, backward-neg}
 
 pub record MirrorField (m n : ℕ) (f f′ : Field) : Type 0 where
   pub same : (i i′ j : ℕ) → suc (i + i′) ≡ m → j < n → f′ i j ≡ f i′ j
@@ -83,7 +83,7 @@ module _ (c : Card) (w w′ : Water) (𝓜 : Mirror c w w′) where
 
   module _ (g g′ : Field) (𝓖 : MirrorField (c .columns) (c .rows) g g′) where
     -- K of the one is L of the other
-    pub east-faces : (i i′ j : ℕ) → suc (suc (i + i′)) ≡ c .columns → j < c .rows → eastFace c g′ w′ i j ≡ endForEnd (eastFace c g w i′ j)
+    east-faces : (i i′ j : ℕ) → suc (suc (i + i′)) ≡ c .columns → j < c .rows → eastFace c g′ w′ i j ≡ endForEnd (eastFace c g w i′ j)
     unfolding eastFace endForEnd
     east-faces i i′ j e h = λ x. record {
       oldK = 𝓜 .height i (suc i′) j (omega arith) h x;
@@ -107,7 +107,7 @@ module _ (c : Card) (w w′ : Water) (𝓜 : Mirror c w w′) where
     }
 
     -- its sides change places
-    pub north-faces : (i i′ j : ℕ) → suc (i + i′) ≡ c .columns → suc j < c .rows → northFace c g′ w′ i j ≡ sideForSide (northFace c g w i′ j)
+    north-faces : (i i′ j : ℕ) → suc (i + i′) ≡ c .columns → suc j < c .rows → northFace c g′ w′ i j ≡ sideForSide (northFace c g w i′ j)
     unfolding northFace sideForSide
     north-faces i i′ j e h = λ x. record {
       oldK = 𝓜 .height i i′ j e (omega arith) x;

@@ -1,13 +1,13 @@
 -- Two waters of which one is the other turned east for west: their checks and their steps have the same numbers.
-use Prim.Native.Nat.{suc, _-_}
+use Prim.Native.Nat.{suc}
 use mathlib.Core.Path.{_≡_, ap₂}
 use mathlib.Core.Bool.{_&&_, and-comm}
 use native.Mathlib.Omega.{arith}
 use Rattle.rules.specs.declared.Card.{Card}
 use Rattle.rules.specs.Grid.{Field}
 use Rattle.rules.specs.Site.{Water, isZero, groundsFit, heightsFit, velocitiesFit, wallsStill, valuesFit}
-use Rattle.rules.specs.Step.{Rule, withinLimit, eastFace, northFace, newEast, limitKept, newHeightsFit, sharesFit, newVelocitiesFit, number}
-use Rattle.rules.proofs.Fair.{share-by-ends, share-by-sides, Fair}
+use Rattle.rules.specs.Step.{Rule, withinLimit, newEast, limitKept, newHeightsFit, newVelocitiesFit, number}
+use Rattle.rules.proofs.Fair.{Fair}
 use Rattle.laws.specs.Numbers.{abs-neg}
 use Rattle.laws.specs.Grids.{allAt-mirror, all-mirror, all-same}
 use Rattle.promises.specs.Mirror as M
@@ -22,13 +22,6 @@ module _ (c : Card) (w w′ : Water) (𝓜 : Mirror c w w′) (g g′ : Field) (
   unfolding newHeightsFit
   heights-same = allAt-mirror (c .columns) (c .rows) _ _ (λ i i′ j e h. rw (M.new-heights c w w′ 𝓜 i i′ j e h))
 
-  shares-same : sharesFit c g′ w′ ≡ sharesFit c g w
-  unfolding sharesFit
-  shares-same =
-      ap₂ _&&_
-      (allAt-mirror (c .columns - 1) (c .rows) _ _ (λ i i′ j e h. rw (M.east-faces c w w′ 𝓜 g g′ 𝓖 i i′ j (omega arith) h, share-by-ends (eastFace c g w i′ j))))
-      (allAt-mirror (c .columns) (c .rows - 1) _ _ (λ i i′ j e h. rw (M.north-faces c w w′ 𝓜 g g′ 𝓖 i i′ j e (omega arith), share-by-sides (northFace c g w i′ j))))
-
   module _ (rule : Rule) (fair : Fair rule) where
     speeds-same : newVelocitiesFit rule c g′ w′ ≡ newVelocitiesFit rule c g w
     unfolding newVelocitiesFit
@@ -39,7 +32,7 @@ module _ (c : Card) (w w′ : Water) (𝓜 : Mirror c w w′) (g g′ : Field) (
 
     pub numbers : number rule c g′ w′ ≡ number rule c g w
     unfolding number
-    numbers = rw (limit-same, heights-same, shares-same, speeds-same)
+    numbers = rw (limit-same, heights-same, speeds-same)
 
   pub values-same : valuesFit c g′ w′ ≡ valuesFit c g w
   unfolding valuesFit groundsFit heightsFit velocitiesFit wallsStill

@@ -1,4 +1,4 @@
--- A run that passed the first three checks never meets 1 to 3 in its middle: its end state passes them too, and its reason is 0 or one of 4 to 7.
+-- A run that passed the first three checks never meets 1 to 3 in its middle: its end state passes them too, and its reason is 0 or one of 4, 5 and 7.
 -- And it does what it says: no more steps than wanted, all of them exactly where the reason is 0.
 use Prim.Native.Nat.{ℕ}
 use mathlib.Core.Path.{_≡_, sym, subst}
@@ -7,7 +7,7 @@ use mathlib.Core.List.{List}
 use lib.IntN.{ℤ}
 use Rattle.rules.specs.declared.Card.{Card}
 use Rattle.rules.specs.Site.{check, readGround, readState}
-use Rattle.rules.specs.Step.{answer, limitKept, newHeightsFit, sharesFit, newVelocity, newVelocitiesFit, number, stepNumberBy, stepNumber}
+use Rattle.rules.specs.Step.{answer, limitKept, newHeightsFit, newVelocity, newVelocitiesFit, number, stepNumberBy, stepNumber}
 use Rattle.rules.specs.Run.{Outcome, siteStep, run}
 use Rattle.laws.specs.Keeps.{keeps}
 use Rattle.laws.specs.Runs.{begun}
@@ -18,22 +18,20 @@ pub data OfAStep : ℕ → Type 0 where
   done : OfAStep 0
   overTheLimit : OfAStep 4
   tooHigh : OfAStep 5
-  negativeShare : OfAStep 6
   tooFast : OfAStep 7
 
-answers : (l h s v : Bool) → OfAStep (answer l h s v)
+answers : (l h v : Bool) → OfAStep (answer l h v)
 unfolding answer
-answers false h s v = overTheLimit
-answers true false s v = tooHigh
-answers true true false v = negativeShare
-answers true true true false = tooFast
-answers true true true true = done
+answers false h v = overTheLimit
+answers true false v = tooHigh
+answers true true false = tooFast
+answers true true true = done
 
 pub step-numbers : (c : Card) (g s : List ℤ) → OfAStep (stepNumber c g s)
 unfolding stepNumber stepNumberBy number
 step-numbers c g s =
     let w = readState c s in
-    answers (limitKept c w) (newHeightsFit c w) (sharesFit c (readGround c g) w) (newVelocitiesFit newVelocity c (readGround c g) w)
+    answers (limitKept c w) (newHeightsFit c w) (newVelocitiesFit newVelocity c (readGround c g) w)
 
 -- how a run ends that wants so many steps in all
 abbrev pub Ends : Card → (ground : List ℤ) → (wanted : ℕ) → Outcome → Type 0

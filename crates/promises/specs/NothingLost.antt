@@ -1,7 +1,7 @@
 -- Document 02, [9]: a face counts in a cell's step limit only if its velocity points out of that cell, and nothing is lost by it. Every step that document 01's
 -- own limit accepted is accepted, with the same next state; so is every run of such steps. No answer but 4 changed.
 use Prim.Native.Nat.{ℕ, suc, _+_, _*_}
-use mathlib.Core.Path.{_≡_, refl, _∙_}
+use mathlib.Core.Path.{_≡_, refl, sym, _∙_}
 use mathlib.Core.Bool.{Bool, true, false}
 use mathlib.Core.List.{List}
 use native.Mathlib.Nat.{le-trans, add-le-add, mul-le-mul-right, mul-le-mul-left}
@@ -12,15 +12,17 @@ use lib.Dec.{T, leb, leb→le, le→leb}
 use Rattle.rules.specs.declared.Card.{Card}
 use Rattle.rules.specs.Grid.{all, allAt}
 use Rattle.rules.specs.Site.{Water, check, firstRefusal, readGround, readState}
-use Rattle.rules.specs.Step.{withinLimit, newVelocity, limitKept, newHeightsFit, sharesFit, newVelocitiesFit, answer, number, stepNumberBy, stepNumber, nextState}
+use Rattle.rules.specs.Step.{withinLimit, newVelocity, limitKept, newHeightsFit, newVelocitiesFit, answer, number, stepNumberBy, stepNumber, nextState}
 use Rattle.rules.specs.Run.{Stepping, peak, runFrom, siteStep}
 use Rattle.rules.specs.Calls.{stepAnswer, stepNext, runOutcome}
 use Rattle.rules.specs.Starred.{oneRow, flat, two, passing}
 use Rattle.laws.specs.Grids.{allAt-at, allAt-intro}
 use Rattle.laws.specs.Outward.{forward-size, backward-size}
+use Rattle.laws.specs.Keeps.{keeps}
 use Rattle.laws.specs.Runs.{begun}
 use Rattle.laws.specs.Follows.{Follows, follows}
 use Rattle.promises.specs.TheCall.{call-steps, call-leaves, call-runs}
+use Rattle.promises.specs.NoNegativeShare.{sharesFit, answerWith6, passed-over, shares-fit}
 
 -- ---- Document 01's limit, (18) as it stands: every face of a cell counts, whichever way its velocity points
 
@@ -32,10 +34,10 @@ withinOldLimit c w i j =
 unfoldable pub oldLimitKept : Card → Water → Bool
 oldLimitKept c w = allAt (c .columns) (c .rows) (withinOldLimit c w)
 
--- the step's number under it, and the step; the next state never asks for the limit
+-- the step's number under it, with document 01's look for 6, and the step; the next state never asks for either
 unfoldable pub oldNumber : Card → (ground state : List ℤ) → ℕ
 oldNumber c g s =
-    answer (oldLimitKept c (readState c s)) (newHeightsFit c (readState c s)) (sharesFit c (readGround c g) (readState c s)) (newVelocitiesFit newVelocity c (readGround c g) (readState c s))
+    answerWith6 (oldLimitKept c (readState c s)) (newHeightsFit c (readState c s)) (sharesFit c (readGround c g) (readState c s)) (newVelocitiesFit newVelocity c (readGround c g) (readState c s))
 
 abbrev pub oldStep : Card → (ground : List ℤ) → Stepping
 oldStep c g = record { number = oldNumber c g; next = nextState c g; peak = peak c }
@@ -66,26 +68,29 @@ unfolding oldLimitKept limitKept
 site-keeps c w t = allAt-intro (c .columns) (c .rows) (withinLimit c w) (λ i j hi hj. cell-keeps c w i j (allAt-at (c .columns) (c .rows) (withinOldLimit c w) t i j hi hj))
 
 -- so that the answer changes only where it was 4
-answer-stays : (old new h s v : Bool) → (T old → T new) → (answer old h s v ≡ 4 → ⊥) → answer new h s v ≡ answer old h s v
-unfolding answer
-answer-stays false new h s v f n = absurd (n refl)
-answer-stays true true h s v f n = refl
-answer-stays true false h s v f n = absurd (f tt)
+answer-stays : (old new h s v : Bool) → (T old → T new) → (T new → T s) → (answerWith6 old h s v ≡ 4 → ⊥) → answer new h v ≡ answerWith6 old h s v
+unfolding answerWith6
+answer-stays false new h s v f k n = absurd (n refl)
+answer-stays true true h s v f k n = sym (passed-over true h s v k)
+answer-stays true false h s v f k n = absurd (f tt)
 
-pub number-stays : (c : Card) (g s : List ℤ) → (oldNumber c g s ≡ 4 → ⊥) → stepNumber c g s ≡ oldNumber c g s
+pub number-stays : (c : Card) (g s : List ℤ) → check c g s ≡ 0 → (oldNumber c g s ≡ 4 → ⊥) → stepNumber c g s ≡ oldNumber c g s
 unfolding oldNumber stepNumber stepNumberBy number
-number-stays c g s = answer-stays (oldLimitKept c (readState c s)) (limitKept c (readState c s)) _ _ _ (site-keeps c (readState c s))
+number-stays c g s e = answer-stays (oldLimitKept c (readState c s)) (limitKept c (readState c s)) _ _ _ (site-keeps c (readState c s)) (shares-fit c g s e)
 
 -- a step that was done was not refused by 4
 not-four : {k : ℕ} → k ≡ 0 → k ≡ 4 → ⊥
 not-four z e = omega arith
 
+was-done : (c : Card) (g s : List ℤ) → check c g s ≡ 0 → oldNumber c g s ≡ 0 → stepNumber c g s ≡ 0
+was-done c g s e z = number-stays c g s e (not-four z) ∙ z
+
 -- the step follows the old one, of every number but 4
-follows-old : (c : Card) (g : List ℤ) → Follows (λ s. Unit {0}) (λ k. k ≡ 4 → ⊥) (λ s. s) (oldStep c g) (siteStep c g)
+follows-old : (c : Card) (g : List ℤ) → Follows (λ s. check c g s ≡ 0) (λ k. k ≡ 4 → ⊥) (λ s. s) (oldStep c g) (siteStep c g)
 follows-old c g = record {
-  kept = λ s p e. tt;
+  kept = λ s p e. keeps c g s p (was-done c g s p e);
   done = not-four refl;
-  numbers = λ s p. number-stays c g s;
+  numbers = number-stays c g;
   states = λ s p e. refl;
   peaks = λ s p. refl;
 }
@@ -95,13 +100,13 @@ follows-old c g = record {
 pub step-stays : (c : Card) (g s next : List ℤ) → check c g s ≡ 0 → length next ≡ length s → oldNumber c g s ≡ 0 → StillAccepted c g s next
 unfolding firstRefusal
 step-stays c g s next e l z =
-    let n : stepNumber c g s ≡ 0 = number-stays c g s (not-four z) ∙ z in
+    let n : stepNumber c g s ≡ 0 = was-done c g s e z in
     let a : stepAnswer c g s next ≡ 0 = call-steps c g s next l ∙ rw (e, n) in
     record { number = a; state = call-leaves c g s next a }
 
 pub run-stays : (c : Card) (g s scratch : List ℤ) → check c g s ≡ 0 → length scratch ≡ length s → (runFrom (oldStep c g) (c .steps) s .tally .reason ≡ 4 → ⊥)
     → runOutcome c g s scratch ≡ runFrom (oldStep c g) (c .steps) s
-run-stays c g s scratch e l h = call-runs c g s scratch l ∙ begun c g s e ∙ follows (follows-old c g) (c .steps) s tt h
+run-stays c g s scratch e l h = call-runs c g s scratch l ∙ begun c g s e ∙ follows (follows-old c g) (c .steps) s e h
 
 -- ---- On numbers of `Starred`: the old limit stood just as much where one face moves, and refused the 3×1 site with both inner faces at 6,000,000
 
@@ -110,5 +115,5 @@ unfolding oneRow flat two all allAt readState withinOldLimit oldLimitKept
 was-accepted = refl
 
 pub was-refused : oldNumber (oneRow 3) (flat 3) (passing (pos 1000000) (pos 1000000) (pos 1000000) (pos 6000000) (pos 6000000)) ≡ 4
-unfolding oneRow flat passing all allAt readState withinOldLimit oldLimitKept oldNumber answer
+unfolding oneRow flat passing all allAt readState withinOldLimit oldLimitKept oldNumber answerWith6
 was-refused = refl

@@ -66,7 +66,7 @@ module _ (c : Card) (w w′ : Water) (𝓢 : Swapped c w w′) where
       ))
 
   module _ (g g′ : Field) (𝓖 : SwappedField (c .columns) (c .rows) g g′) where
-    pub east-faces : (i j : ℕ) → suc i < c .rows → j < c .columns → eastFace (swapCard c) g′ w′ i j ≡ northFace c g w j i
+    east-faces : (i j : ℕ) → suc i < c .rows → j < c .columns → eastFace (swapCard c) g′ w′ i j ≡ northFace c g w j i
     unfolding eastFace northFace
     east-faces i j hi hj = λ x. record {
       oldK = 𝓢 .height i j (omega arith) hj x;
@@ -89,7 +89,7 @@ module _ (c : Card) (w w′ : Water) (𝓢 : Swapped c w w′) where
       uBelow = before-same (λ r. w .north r (suc i)) (λ r. w′ .east (suc i) r) j (λ r l. 𝓢 .east (suc i) r (omega arith) (omega arith)) x;
     }
 
-    pub north-faces : (i j : ℕ) → i < c .rows → suc j < c .columns → northFace (swapCard c) g′ w′ i j ≡ eastFace c g w j i
+    north-faces : (i j : ℕ) → i < c .rows → suc j < c .columns → northFace (swapCard c) g′ w′ i j ≡ eastFace c g w j i
     unfolding eastFace northFace
     north-faces i j hi hj = λ x. record {
       oldK = 𝓢 .height i j hi (omega arith) x;

@@ -1,12 +1,12 @@
 -- Two waters of which one is the other with its axes swapped: their checks and their steps have the same numbers.
-use Prim.Native.Nat.{suc, _-_}
+use Prim.Native.Nat.{suc}
 use mathlib.Core.Path.{_≡_, ap₂}
 use mathlib.Core.Bool.{_&&_}
 use native.Mathlib.Omega.{arith}
 use Rattle.rules.specs.declared.Card.{Card}
 use Rattle.rules.specs.Grid.{Field}
 use Rattle.rules.specs.Site.{Water, groundsFit, heightsFit, velocitiesFit, wallsStill, valuesFit}
-use Rattle.rules.specs.Step.{Rule, withinLimit, limitKept, newHeightsFit, sharesFit, newVelocitiesFit, number}
+use Rattle.rules.specs.Step.{Rule, withinLimit, limitKept, newHeightsFit, newVelocitiesFit, number}
 use Rattle.rules.specs.Turn.{swapCard}
 use Rattle.laws.specs.Tests.{and-cross}
 use Rattle.laws.specs.Grids.{allAt-swap, all-same}
@@ -22,13 +22,6 @@ module _ (c : Card) (w w′ : Water) (𝓢 : Swapped c w w′) (g g′ : Field) 
   unfolding newHeightsFit
   heights-same = allAt-swap (c .columns) (c .rows) _ _ (λ i j hi hj. rw (S.new-heights c w w′ 𝓢 i j hi hj))
 
-  shares-same : sharesFit (swapCard c) g′ w′ ≡ sharesFit c g w
-  unfolding sharesFit
-  shares-same =
-      and-cross
-      (allAt-swap (c .columns) (c .rows - 1) _ _ (λ i j hi hj. rw (S.east-faces c w w′ 𝓢 g g′ 𝓖 i j (omega arith) hj)))
-      (allAt-swap (c .columns - 1) (c .rows) _ _ (λ i j hi hj. rw (S.north-faces c w w′ 𝓢 g g′ 𝓖 i j hi (omega arith))))
-
   module _ (rule : Rule) where
     speeds-same : newVelocitiesFit rule (swapCard c) g′ w′ ≡ newVelocitiesFit rule c g w
     unfolding newVelocitiesFit
@@ -39,7 +32,7 @@ module _ (c : Card) (w w′ : Water) (𝓢 : Swapped c w w′) (g g′ : Field) 
 
     pub numbers : number rule (swapCard c) g′ w′ ≡ number rule c g w
     unfolding number
-    numbers = rw (limit-same, heights-same, shares-same, speeds-same)
+    numbers = rw (limit-same, heights-same, speeds-same)
 
   pub values-same : valuesFit (swapCard c) g′ w′ ≡ valuesFit c g w
   unfolding valuesFit groundsFit heightsFit velocitiesFit wallsStill

@@ -93,13 +93,13 @@ module _ (f : Face) where
 
   -- ---- own share
 
-  pub share-by-ends : ownShare (endForEnd f) ≡ ownShare f
+  share-by-ends : ownShare (endForEnd f) ≡ ownShare f
   unfolding ownShare endForEnd
   share-by-ends =
       rw (ahead-by-ends, behind-by-ends, above-by-ends, below-by-ends)
       (rw (+ℤ-comm (positive (outBehind f)) (positive (outAhead f)), +ℤ-comm (f .oldL) (f .oldK)))
 
-  pub share-by-sides : ownShare (sideForSide f) ≡ ownShare f
+  share-by-sides : ownShare (sideForSide f) ≡ ownShare f
   unfolding ownShare sideForSide outAhead outBehind
   share-by-sides = rw (above-by-sides, below-by-sides, +ℤ-comm (positive (outBelow f)) (positive (outAbove f)))
 

@@ -7,7 +7,7 @@ use lib.IntN.{ℤ, pos, negℤ}
 use Rattle.rules.specs.declared.Card.{Card}
 use Rattle.rules.specs.Grid.{tabulate, grid, all, allAt, greatest}
 use Rattle.rules.specs.Site.{readGround, readState, writeState, stateLength, sizesFit, sidesFit, timesFit, cardFits, lengthsFit, groundsFit, heightsFit, velocitiesFit, wallsStill, valuesFit, firstOf, checkAlso, checkWith, firstRefusal, ifDone}
-use Rattle.rules.specs.Step.{walled, transfer, eastTransfer, northTransfer, forward, backward, withinLimit, newHeight, after, before, eastFace, northFace, outAhead, outBehind, outAbove, outBelow, positive, ownShare, brought, carried, rise, slope, newVelocity, newEast, newNorth, next, limitKept, newHeightsFit, sharesFit, newVelocitiesFit, answer, number, stepNumberBy, nextStateBy, stepNumber, nextState}
+use Rattle.rules.specs.Step.{walled, transfer, eastTransfer, northTransfer, forward, backward, withinLimit, newHeight, after, before, eastFace, northFace, outAhead, outBehind, outAbove, outBelow, positive, ownShare, brought, carried, rise, slope, newVelocity, newEast, newNorth, next, limitKept, newHeightsFit, newVelocitiesFit, answer, number, stepNumberBy, nextStateBy, stepNumber, nextState}
 use Rattle.rules.specs.Text.{digitsOf, decimal, heightText, depthText}
 use Rattle.rules.specs.Calls.{stepAnswer, stepNext}
 
@@ -64,7 +64,7 @@ pub record Starred : Type 0 where
   pub text-15000 : depthText (pos 15000) ≡ 50 ∷ 32 ∷ 99 ∷ 109 ∷ []
 
 pub starred : Starred
-unfolding oneRow flat two passing three tabulate grid all allAt greatest readGround readState writeState stateLength sizesFit sidesFit timesFit cardFits lengthsFit groundsFit heightsFit velocitiesFit wallsStill valuesFit firstOf checkAlso checkWith firstRefusal ifDone walled transfer eastTransfer northTransfer forward backward withinLimit newHeight after before eastFace northFace outAhead outBehind outAbove outBelow positive ownShare brought carried rise slope newVelocity newEast newNorth next limitKept newHeightsFit sharesFit newVelocitiesFit answer number stepNumberBy nextStateBy stepNumber nextState digitsOf decimal heightText depthText stepAnswer stepNext
+unfolding oneRow flat two passing three tabulate grid all allAt greatest readGround readState writeState stateLength sizesFit sidesFit timesFit cardFits lengthsFit groundsFit heightsFit velocitiesFit wallsStill valuesFit firstOf checkAlso checkWith firstRefusal ifDone walled transfer eastTransfer northTransfer forward backward withinLimit newHeight after before eastFace northFace outAhead outBehind outAbove outBelow positive ownShare brought carried rise slope newVelocity newEast newNorth next limitKept newHeightsFit newVelocitiesFit answer number stepNumberBy nextStateBy stepNumber nextState digitsOf decimal heightText depthText stepAnswer stepNext
 starred = record {
   first-step = (refl, refl);
   second-step = (refl, refl);

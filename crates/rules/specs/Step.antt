@@ -1,5 +1,5 @@
 -- Document 01, "One step": the decoupled staggered scheme of document 002 in whole numbers. The numbers in brackets are document 002's equations.
-use Prim.Native.Nat.{ℕ, zero, suc, _+_, _*_, _-_, _/_}
+use Prim.Native.Nat.{ℕ, zero, suc, _+_, _*_, _/_}
 use mathlib.Core.Bool.{Bool, true, false, cond, _&&_}
 use mathlib.Core.List.{List}
 use lib.IntN.{ℤ, pos, negsuc, negℤ, natAbs, _+ℤ_, _-ℤ_, _*ℤ_}
@@ -200,7 +200,7 @@ newNorth rule c g w i j = walled (c .rows) (λ k. rule (c .dt) (c .dy) (northFac
 unfoldable pub next : Rule → Card → Field → Water → Water
 next rule c g w = record { height = newHeight c w; east = newEast rule c g w; north = newNorth rule c g w }
 
--- ---- The step's number: 0, or the lowest of 4 to 7 that applies
+-- ---- The step's number: 0, or the lowest of 4, 5 and 7 that applies. 6 is unused: document 01 gave it to a negative own share, and there is none (document 02, [7])
 
 -- 4: some cell breaks the step limit
 unfoldable pub limitKept : Card → Water → Bool
@@ -210,27 +210,20 @@ limitKept c w = allAt (c .columns) (c .rows) (withinLimit c w)
 unfoldable pub newHeightsFit : Card → Water → Bool
 newHeightsFit c w = allAt (c .columns) (c .rows) (λ i j. leZ (newHeight c w i j) (pos 50000000))
 
--- 6: some own share is negative; inner faces are counted by their cell K, one fewer than columns or rows
-unfoldable pub sharesFit : Card → Field → Water → Bool
-sharesFit c g w =
-    allAt (c .columns - 1) (c .rows) (λ i j. leZ (pos 0) (ownShare (eastFace c g w i j)))
-    && allAt (c .columns) (c .rows - 1) (λ i j. leZ (pos 0) (ownShare (northFace c g w i j)))
-
 -- 7: some new velocity lies outside its range
 unfoldable pub newVelocitiesFit : Rule → Card → Field → Water → Bool
 newVelocitiesFit rule c g w =
     allAt (suc (c .columns)) (c .rows) (λ i j. speedFits (newEast rule c g w i j))
     && allAt (c .columns) (suc (c .rows)) (λ i j. speedFits (newNorth rule c g w i j))
 
-unfoldable pub answer : (limit heights shares speeds : Bool) → ℕ
-answer false h s v = 4
-answer true false s v = 5
-answer true true false v = 6
-answer true true true false = 7
-answer true true true true = 0
+unfoldable pub answer : (limit heights speeds : Bool) → ℕ
+answer false h v = 4
+answer true false v = 5
+answer true true false = 7
+answer true true true = 0
 
 unfoldable pub number : Rule → Card → Field → Water → ℕ
-number rule c g w = answer (limitKept c w) (newHeightsFit c w) (sharesFit c g w) (newVelocitiesFit rule c g w)
+number rule c g w = answer (limitKept c w) (newHeightsFit c w) (newVelocitiesFit rule c g w)
 
 -- ---- One step of a site that passes the first three checks: its number, and its next state
 

@@ -13,14 +13,14 @@ use borrow.Author.Tests.{le-leb, lt-leb, leb-false}
 use Rattle.rules.specs.declared.Card.{Card}
 use Rattle.rules.specs.declared.Window.{Window}
 use Rattle.rules.specs.declared.Found.{Found}
-use Rattle.rules.specs.Site.{groundsFit, heightsFit, velocitiesFit, wallsStill, valuesFit, readGround, readState, ifDone}
+use Rattle.rules.specs.Site.{heightsFit, readState, ifDone}
 use Rattle.rules.specs.Search.{listOf}
 use Rattle.rules.specs.Calls.{searchCheck, searchPlaces, searchNumber, searchAnswer, searchFound}
 use Rattle.rules.specs.Contracts.{SearchContract}
 use Rattle.laws.specs.Asked.{asked-facts, places-passed, places-refused, number-passed, number-refused}
-use Rattle.laws.specs.Facts.{length-facts}
+use Rattle.laws.specs.Facts.{length-facts, sound-depths}
 use Rattle.laws.specs.Outcomes.{if-refused}
-use Rattle.laws.specs.Tests.{four-of, to-T, true-of}
+use Rattle.laws.specs.Tests.{true-of}
 use Rattle.register.specs.Checked.{Checked}
 use Rattle.search.specs.Reported.{Reported}
 
@@ -69,12 +69,10 @@ module _ (listed lent : List ℕ) where
 module _ (c : Card) (g s xs ys : List ℤ) (w : Window) (depth : ℤ) where
   -- what is known where the checks give 0
   pub checked-of : searchCheck c g s xs ys w depth ≡ 0 → Checked c s xs ys depth
-  unfolding valuesFit
   checked-of e =
       let a = asked-facts c g s xs ys w depth e in
       let long = length-facts c g s (a .sound .lengths) in
-      let values = four-of (groundsFit c (readGround c g)) (heightsFit c (readState c s)) (velocitiesFit c (readState c s)) (wallsStill c (readState c s)) (to-T (a .sound .values)) in
-      record { card = a .sound .card; heights = omega arith; kept = true-of (heightsFit c (readState c s)) (values .two); asked = a .depth-fits; same = a .same; few = a .few; x-fits = a .x-fits; y-fits = a .y-fits }
+      record { card = a .sound .card; heights = omega arith; kept = true-of (heightsFit c (readState c s)) (sound-depths c g s (a .sound)); asked = a .depth-fits; same = a .same; few = a .few; x-fits = a .x-fits; y-fits = a .y-fits }
 
   module _ (lent : List ℕ) where
     pub refused : (n : ℕ) → n ≡ searchCheck c g s xs ys w depth → (n ≡ 0 → ⊥) → SearchContract c g s xs ys w depth lent (record { number = n; count = 0 }) lent

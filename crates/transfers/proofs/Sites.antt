@@ -10,11 +10,11 @@ use lib.Dec.{T, le→leb}
 use mir.Val.{toZ, ofZ}
 use mir.Syntax.{w32}
 use Rattle.rules.specs.declared.Card.{Card}
-use Rattle.rules.specs.Site.{readGround, readState, valuesFit, groundsFit, heightsFit, velocitiesFit, wallsStill}
+use Rattle.rules.specs.Site.{readGround, readState, heightsFit}
 use Rattle.laws.specs.Sizes.{Within}
 use Rattle.laws.specs.Signed.{word-is}
-use Rattle.laws.specs.Tests.{four-of, to-T}
-use Rattle.laws.specs.Facts.{Fits, sound-facts}
+use Rattle.laws.specs.Tests.{to-T}
+use Rattle.laws.specs.Facts.{Fits, sound-depths, sound-facts}
 use Rattle.laws.specs.Bounded as bounded
 use Rattle.layout.specs.Places.{HeightPlace, FaceIn, FacePlace}
 use Rattle.transfers.specs.Known.{SoundState, Limited}
@@ -71,11 +71,7 @@ module _ {c : Card} {s : List ℤ} (sound : SoundState c s) where
   side-fits false = record { low = facts .card .dy-low; high = facts .card .dy-high }
 
   pub depths : T (heightsFit c (readState c s))
-  unfolding valuesFit
-  depths =
-      let g = readGround c (sound .ground) in
-      let w = readState c s in
-      four-of (groundsFit c g) (heightsFit c w) (velocitiesFit c w) (wallsStill c w) (to-T (sound .site .values)) .two
+  depths = sound-depths c (sound .ground) s (sound .site)
 
 -- ---- under the step limit: what crosses a face is at most a height
 

@@ -47,7 +47,7 @@ fn what_is_left_in_the_lists() {
     assert_eq!(run(card, brisk).0, Tally { steps: 0, reason: 0, top: 6 });
 }
 
-/// Every reason from 4 to 7 that a site can reach, met in the middle of a run. (6 has no input.)
+/// Each reason that a step can give, 4, 5 and 7, met in the middle of a run.
 #[test]
 fn each_reason_on_the_way() {
     let card = Card { columns: 2, rows: 1, dx: 1_000_000, dy: 1_000_000, dt: 100, steps: 100 };

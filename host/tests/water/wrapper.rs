@@ -19,19 +19,19 @@ fn number<T>(answer: &Result<T, Refusal>) -> u32 {
 #[test]
 fn every_refusal_has_its_number() {
     let refusals = [
-        Refusal::Card,
-        Refusal::Length,
-        Refusal::Value,
-        Refusal::StepLimit,
-        Refusal::TooHigh,
-        Refusal::OwnShare,
-        Refusal::TooFast,
-        Refusal::Room { needed: 3 },
-        Refusal::Sheet,
+        (1, Refusal::Card),
+        (2, Refusal::Length),
+        (3, Refusal::Value),
+        (4, Refusal::StepLimit),
+        (5, Refusal::TooHigh),
+        // 6 is unused
+        (7, Refusal::TooFast),
+        (8, Refusal::Room { needed: 3 }),
+        (9, Refusal::Sheet),
     ];
-    for (k, refusal) in refusals.iter().enumerate() {
-        assert_eq!(refusal.number(), k as u32 + 1);
-        assert!(refusal.to_string().ends_with(&format!("({})", k + 1)), "{refusal}");
+    for (number, refusal) in refusals {
+        assert_eq!(refusal.number(), number);
+        assert!(refusal.to_string().ends_with(&format!("({number})")), "{refusal}");
     }
 }
 

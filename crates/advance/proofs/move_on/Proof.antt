@@ -1,14 +1,8 @@
--- `move_on`: the limit and the heights are known to pass, so 6, 7 or 0 is given by the first test that fails, or by none.
+-- `move_on`: the limit and the heights are known to pass, so 7 or 0 is given by the one test that is left.
 use borrow.Author.Needs.{needs}
-use Rattle.advance.proofs.Answers.{share-broken, speed-broken, all-kept}
+use Rattle.advance.proofs.Answers.{speed-broken, all-kept}
 use Rattle.advance.proofs.move_on.Statement.{statement}
 use Rattle.advance.proofs.move_on.Tie as tie
-
-shares-fit-requires : tie.Need-shares-fit-requires
-shares-fit-requires c κs = search needs
-
-returns : tie.Need-returns
-returns c = search share-broken
 
 fill-next-requires : tie.Need-fill-next-requires
 fill-next-requires c κs = search needs
@@ -16,23 +10,21 @@ fill-next-requires c κs = search needs
 same-length : tie.Need-same-length
 same-length c = search needs
 
-returns-2 : tie.Need-returns-2
-returns-2 c = search speed-broken
+returns : tie.Need-returns
+returns c = search speed-broken
 
 same-length-2 : tie.Need-same-length-2
 same-length-2 c = search needs
 
-returns-3 : tie.Need-returns-3
-returns-3 c = search all-kept
+returns-2 : tie.Need-returns-2
+returns-2 c = search all-kept
 
 pub move-on-spec : {M : Type 1} → statement M
 move-on-spec =
     tie.close
     (tie.spec
-    shares-fit-requires
-    returns
     fill-next-requires
     same-length
-    returns-2
+    returns
     same-length-2
-    returns-3)
+    returns-2)

@@ -19,6 +19,6 @@ pub use run::run;
 pub use search::{search, search_lists};
 pub use sheet::{read_sheet, sheet_size, write_sheet};
 pub use site::{cells, check, state_length, Site};
-pub use step::{step, transfer};
+pub use step::{own_shares, step, transfer};
 pub use text::depth_text;
 pub use turn::{Turn, TURNS};

@@ -160,18 +160,24 @@ fn fits(range: &std::ops::RangeInclusive<i32>, number: i128) -> bool {
     i128::from(*range.start()) <= number && number <= i128::from(*range.end())
 }
 
-/// One step of a site that passes the first three checks: the next state, or the lowest of 4 to 7 that applies.
+/// The own share of each inner face of a site that passes the first three checks, eastward ones first.
+pub fn own_shares(site: &Site) -> Vec<i128> {
+    Moving::of(site).inner_faces().iter().map(Face::own_share).collect()
+}
+
+/// One step of a site that passes the first three checks: the next state, or the lowest of 4, 5 and 7 that applies.
 pub fn advance(site: &Site) -> Result<Vec<i32>, u32> {
     let (columns, rows) = (site.columns(), site.rows());
     if !(0..rows).all(|j| (0..columns).all(|i| within_step_limit(site, i, j))) {
         return Err(4);
     }
     let moving = Moving::of(site);
+    assert!(
+        moving.inner_faces().iter().all(|face| face.own_share() >= 0),
+        "the step limit keeps own shares at or above 0, so that 6 has no input"
+    );
     if moving.new_heights.numbers.iter().any(|&height| height > 50_000_000) {
         return Err(5);
-    }
-    if moving.inner_faces().iter().any(|face| face.own_share() < 0) {
-        return Err(6);
     }
     // walls stay 0
     let east = Grid::of(columns + 1, rows, |i, j| if i == 0 || i == columns { 0 } else { moving.east_face(i, j).new_velocity() });

@@ -1,5 +1,4 @@
-//! Refusals 1 to 5 and 7 of the step, each from both sides of its boundary, and the lowest of several. 6 has no input: the step
-//! limit keeps every own share at or above 0.
+//! Refusals 1 to 5 and 7 of the step, each from both sides of its boundary, and the lowest of several. (6 is unused: shares.rs.)
 
 use crate::library;
 use crate::model::TURNS;

@@ -15,7 +15,6 @@ fn random_sites() {
         let mut next = room(rng, site.state.len());
         given.count(library::step(rng, site.card, &site.ground, &site.state, &mut next));
     });
-    // 6 has no input: the step limit keeps every own share at or above 0
     given.assert_often("step", &[0, 1, 2, 3, 4, 5, 7], 40);
 }
 

@@ -1,4 +1,5 @@
-//! Sites on the brink of refusals 4, 5 and 7: exactly within, or beyond by as little as the numbers allow.
+//! Sites on the brink of refusals 4, 5 and 7: exactly within, or beyond by as little as the numbers allow; and on the brink of the unused
+//! 6, which no number goes beyond.
 
 use super::{card, Wild, HEIGHT, SPEED};
 use crate::model;
@@ -35,6 +36,33 @@ pub fn of_limit(rng: &mut Rng) -> Wild {
         };
         site.state[low] = -back as i32;
         site.state[high] = forth as i32;
+    }
+    site
+}
+
+/// Two cells in the middle of 4×3, side by side, with a still face between them; each lets water out over its three other faces, up to
+/// the step limit or beyond it by as little as the numbers allow. Of what is in them nothing is left, or nearly nothing, and it is all
+/// that the own share of the face between them has.
+pub fn of_share(rng: &mut Rng) -> Wild {
+    let card = loop {
+        let card = Card { columns: 4, rows: 3, ..card(rng) };
+        // two faces of a direction together can use the limit up
+        if 1_000 * i64::from(card.dx.max(card.dy)) <= i64::from(card.dt) * 2 * SPEED {
+            break card;
+        }
+    };
+    let (dx, dy, dt) = (i64::from(card.dx), i64::from(card.dy), i64::from(card.dt));
+    let mut site = Wild::empty(card);
+    site.state[..12].fill(rng.pick(&[0, 1, 1_000_000]));
+    for (i, outer, way) in [(1, 1, -1), (2, 3, 1)] {
+        let along = rng.between(0, (1_000 * dx / dt).min(SPEED));
+        let across = ((1_000 * dx * dy - dt * along * dy) / (dt * dx) + rng.pick(&[0, 0, 0, 1])).min(2 * SPEED);
+        let south = rng.between((across - SPEED).max(0), across.min(SPEED));
+        let faces = [(site.east(outer, 1), way * along), (site.north(i, 1), -south), (site.north(i, 2), across - south)];
+        for (place, velocity) in faces {
+            site.state[place] = velocity as i32;
+        }
+        site.state[4 + i as usize] = rng.pick(&[0, 1, 999_983, 1_000_000, HEIGHT]) as i32;
     }
     site
 }

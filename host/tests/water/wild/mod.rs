@@ -3,6 +3,8 @@
 mod brink;
 mod hurt;
 
+pub use brink::of_share;
+
 use crate::model::{self, TURNS};
 use crate::rng::Rng;
 use water::raw::Card;
@@ -56,6 +58,7 @@ pub fn good(rng: &mut Rng) -> Wild {
         0 => brink::of_limit(rng),
         1 => brink::of_height(rng),
         2 => brink::of_speed(rng),
+        3 => brink::of_share(rng),
         _ => {
             let card = card(rng);
             tempered(rng, card)

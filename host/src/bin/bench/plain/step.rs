@@ -158,14 +158,11 @@ struct Face {
 }
 
 impl Face {
-    fn own_share(&self) -> i64 {
-        self.old_sum - self.flows.iter().map(|&flow| flow.max(0)).sum::<i64>()
-    }
-
-    fn new_velocity<const SKIPS: bool>(&self, own_share: i64, force: i64, side: i64) -> i64 {
+    fn new_velocity<const SKIPS: bool>(&self, force: i64, side: i64) -> i64 {
         if self.new_sum == 0 {
             return 0;
         }
+        let own_share = self.old_sum - self.flows.iter().map(|&flow| flow.max(0)).sum::<i64>();
         let mut carried = own_share * i64::from(self.u);
         for (&flow, &velocity) in self.flows.iter().zip(&self.beyond) {
             carried += (-flow).max(0) * i64::from(velocity);
@@ -178,27 +175,16 @@ fn sum(a: i32, b: i32) -> i64 {
     i64::from(a) + i64::from(b)
 }
 
-/// What the velocity passes found wrong.
-#[derive(Default)]
-struct Wrong {
-    six: bool,
-    seven: bool,
+/// Fills a word with a new velocity, and says whether that is in range.
+fn fill(word: &mut i32, velocity: i64) -> bool {
+    *word = velocity as i32;
+    i32::try_from(velocity).is_ok_and(speed_fits)
 }
 
-impl Wrong {
-    /// The new velocity of a face, noted where it or the face's own share is out of range.
-    fn velocity<const SKIPS: bool>(&mut self, face: Face, force: i64, side: i64) -> i32 {
-        let own_share = face.own_share();
-        self.six |= own_share < 0;
-        let velocity = face.new_velocity::<SKIPS>(own_share, force, side);
-        self.seven |= i32::try_from(velocity).map_or(true, |velocity| !speed_fits(velocity));
-        velocity as i32
-    }
-}
-
-fn eastward<const SKIPS: bool>(card: &Card, ground: &[i32], state: &Parts, tide: &Parts, next: &mut [i32], wrong: &mut Wrong) {
+fn eastward<const SKIPS: bool>(card: &Card, ground: &[i32], state: &Parts, tide: &Parts, next: &mut [i32]) -> bool {
     let (columns, rows) = (card.columns as usize, card.rows as usize);
     let (force, side) = (9_806_650 * i64::from(card.dt), 1_000 * i64::from(card.dx));
+    let mut fit = true;
     for j in 0..rows {
         let old = &state.heights[j * columns..][..columns];
         let new = &tide.heights[j * columns..][..columns];
@@ -227,14 +213,16 @@ fn eastward<const SKIPS: bool>(card: &Card, ground: &[i32], state: &Parts, tide:
                 ],
                 beyond: [u[i + 1], u[i - 1], u_north[i], u_south[i]],
             };
-            row[i] = wrong.velocity::<SKIPS>(face, force, side);
+            fit &= fill(&mut row[i], face.new_velocity::<SKIPS>(force, side));
         }
     }
+    fit
 }
 
-fn northward<const SKIPS: bool>(card: &Card, ground: &[i32], state: &Parts, tide: &Parts, next: &mut [i32], wrong: &mut Wrong) {
+fn northward<const SKIPS: bool>(card: &Card, ground: &[i32], state: &Parts, tide: &Parts, next: &mut [i32]) -> bool {
     let (columns, rows) = (card.columns as usize, card.rows as usize);
     let (force, side) = (9_806_650 * i64::from(card.dt), 1_000 * i64::from(card.dy));
+    let mut fit = true;
     next[..columns].fill(0);
     next[columns * rows..].fill(0);
     for j in 1..rows {
@@ -261,12 +249,13 @@ fn northward<const SKIPS: bool>(card: &Card, ground: &[i32], state: &Parts, tide
                 ],
                 beyond: [u_ahead[i], u_behind[i], u[(i + 1).min(columns - 1)], u[i.saturating_sub(1)]],
             };
-            row[i] = wrong.velocity::<SKIPS>(face, force, side);
+            fit &= fill(&mut row[i], face.new_velocity::<SKIPS>(force, side));
         }
     }
+    fit
 }
 
-/// One step of a site that passed the first three checks: 0 and the next state, or 4 to 7 and anything in `next`.
+/// One step of a site that passed the first three checks: 0 and the next state, or 4, 5 or 7 and anything in `next`.
 fn advance<const SKIPS: bool>(card: &Card, ground: &[i32], state: &[i32], tide: &mut [i32], next: &mut [i32]) -> u32 {
     let (columns, rows) = (card.columns as usize, card.rows as usize);
     let old = parts(card, state);
@@ -280,15 +269,14 @@ fn advance<const SKIPS: bool>(card: &Card, ground: &[i32], state: &[i32], tide: 
         return 5;
     }
     let tide = parts(card, tide);
-    let mut wrong = Wrong::default();
     let (heights, velocities) = next.split_at_mut(columns * rows);
     let (east, north) = velocities.split_at_mut((columns + 1) * rows);
     heights.copy_from_slice(tide.heights);
-    eastward::<SKIPS>(card, ground, &old, &tide, east, &mut wrong);
-    northward::<SKIPS>(card, ground, &old, &tide, north, &mut wrong);
-    match wrong {
-        Wrong { six: true, .. } => 6,
-        Wrong { seven: true, .. } => 7,
-        _ => 0,
+    let mut fit = eastward::<SKIPS>(card, ground, &old, &tide, east);
+    fit &= northward::<SKIPS>(card, ground, &old, &tide, north);
+    if fit {
+        0
+    } else {
+        7
     }
 }

@@ -1,0 +1,126 @@
+//! Own shares of which nothing is left. An own share loses what leaves its two cells and no more, and under the step limit that is no
+//! more than they hold: so refusal 6 has no input. The model asserts it of every face of every step in these tests.
+
+use crate::given::Given;
+use crate::library;
+use crate::model::{self, TURNS};
+use crate::rng::Rng;
+use crate::trials::{single, trials};
+use crate::wild::{self, Wild};
+use water::raw::Card;
+
+/// Two cells in the middle of 4×3, (1, 1) with 1 m of water and (2, 1) with 2 m, and the still face between them. A cell of these sides
+/// stands twice its western and eastern speeds and once its southern and northern ones, up to 20,000,000 in all.
+fn emptied() -> Wild {
+    let mut site = Wild::empty(Card { columns: 4, rows: 3, dx: 1_000_000, dy: 2_000_000, dt: 100, steps: 1 });
+    site.state[5] = 1_000_000;
+    site.state[6] = 2_000_000;
+    for (place, velocity) in
+        out_of_both(&site).into_iter().zip([-4_000_000, -5_000_000, 7_000_000, 6_000_000, -7_900_000, 100_000])
+    {
+        site.state[place] = velocity;
+    }
+    site
+}
+
+/// The three outer faces of the one cell, and those of the other.
+fn out_of_both(site: &Wild) -> [usize; 6] {
+    [site.east(1, 1), site.north(1, 1), site.north(1, 2), site.east(3, 1), site.north(2, 1), site.north(2, 2)]
+}
+
+/// The number of a step and its next state, which each turn of the site has too.
+fn stepped(site: &Wild) -> (u32, Vec<i32>) {
+    let step = |site: &Wild| {
+        let mut next = vec![-7; site.state.len()];
+        (library::step(&mut Rng::new(3), site.card, &site.ground, &site.state, &mut next), next)
+    };
+    let (number, next) = step(site);
+    for turn in &TURNS {
+        let turned = step(&site.turned(turn));
+        assert_eq!(turned.0, number, "{}", turn.name);
+        if number == 0 {
+            let after = Wild { state: next.clone(), ..site.clone() };
+            assert_eq!(turned.1, after.turned(turn).state, "{}", turn.name);
+        }
+    }
+    (number, next)
+}
+
+/// The own share of the inner eastward face between (1, 1) and (2, 1), the fifth of nine.
+fn middle_share(site: &Wild) -> i128 {
+    model::own_shares(&site.site())[4]
+}
+
+/// Both cells are emptied over three faces each, and the step limit is met exactly: nothing is left of the own share.
+#[test]
+fn nothing_is_left() {
+    let site = emptied();
+    assert_eq!(middle_share(&site), 0);
+    let (number, next) = stepped(&site);
+    assert_eq!(number, 0);
+    assert_eq!(next[4..8], [400_000, 0, 0, 1_200_000]);
+    assert_eq!((next[1], next[2], next[9], next[10]), (250_000, 790_000, 350_000, 10_000));
+    assert_eq!(next[site.east(2, 1)], 0);
+}
+
+/// One µm/s more over any of the six faces breaks the limit, and the share would be negative; one less leaves something.
+#[test]
+fn both_sides_of_the_brink() {
+    let mut below = 0;
+    for place in out_of_both(&emptied()) {
+        let mut site = emptied();
+        // enough water for one µm/s to be seen
+        site.state[5] = 50_000_000;
+        site.state[6] = 50_000_000;
+        assert_eq!(middle_share(&site), 0);
+        assert_eq!(stepped(&site).0, 0);
+        let way = site.state[place].signum();
+        site.state[place] += way;
+        assert_eq!(stepped(&site).0, 4);
+        below += u32::from(middle_share(&site) < 0);
+        site.state[place] -= 2 * way;
+        assert!(middle_share(&site) > 0);
+        assert_eq!(stepped(&site).0, 0);
+    }
+    assert_eq!(below, 6, "without the limit a share may be negative");
+}
+
+/// Nothing is left of the own share, and water comes in over one side: the new velocity is that of the face that it comes from.
+#[test]
+fn only_what_comes_in() {
+    let mut site = emptied();
+    // out over two faces each, west and south, east and south; in from the north of both
+    let velocities = [-4_000_000, -12_000_000, -3_000_000, 6_000_000, -8_000_000, -3_000_000];
+    for (place, velocity) in out_of_both(&site).into_iter().zip(velocities) {
+        site.state[place] = velocity;
+    }
+    site.state[9] = 1_000_000;
+    site.state[10] = 1_000_000;
+    let above = site.east(2, 2);
+    site.state[above] = 1_234_567;
+    assert_eq!(middle_share(&site), 0);
+    let (number, next) = stepped(&site);
+    assert_eq!(number, 0);
+    assert_eq!((next[5], next[6]), (150_000, 150_000));
+    assert_eq!(next[site.east(2, 1)], 1_234_567);
+}
+
+/// Random sites on this brink: nothing, or next to nothing, is left; and no other number than the step's own.
+#[test]
+fn random_brinks() {
+    let (mut given, mut nothing, mut shares) = (Given::default(), 0, 0);
+    trials("own shares", 6_000, |rng| {
+        let site = wild::of_share(rng);
+        let number = stepped(&site).0;
+        given.count(number);
+        if number == 0 {
+            let share = middle_share(&site);
+            assert!(share >= 0);
+            shares += 1;
+            nothing += u64::from(share == 0 && (site.state[5] > 1 || site.state[6] > 1));
+        }
+    });
+    println!("own shares: {nothing} of {shares} accepted steps left nothing of two cells with water");
+    given.assert_often("own shares", &[0, 4, 5, 7], 100);
+    assert!(single() || nothing > 100);
+}
