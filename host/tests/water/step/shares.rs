@@ -70,8 +70,8 @@ fn both_sides_of_the_brink() {
     for place in out_of_both(&emptied()) {
         let mut site = emptied();
         // enough water for one µm/s to be seen
-        site.state[5] = 50_000_000;
-        site.state[6] = 50_000_000;
+        site.state[5] = 20_000_000;
+        site.state[6] = 20_000_000;
         assert_eq!(middle_share(&site), 0);
         assert_eq!(stepped(&site).0, 0);
         let way = site.state[place].signum();
@@ -121,6 +121,6 @@ fn random_brinks() {
         }
     });
     println!("own shares: {nothing} of {shares} accepted steps left nothing of two cells with water");
-    given.assert_often("own shares", &[0, 4, 5, 7], 100);
-    assert!(single() || nothing > 100);
+    given.assert_some("own shares", &[0, 4, 7], 20);
+    assert!(single() || nothing * 5 > shares);
 }

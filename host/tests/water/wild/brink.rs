@@ -44,8 +44,13 @@ pub fn of_limit(rng: &mut Rng) -> Wild {
 /// the step limit or beyond it by as little as the numbers allow. Of what is in them nothing is left, or nearly nothing, and it is all
 /// that the own share of the face between them has.
 pub fn of_share(rng: &mut Rng) -> Wild {
+    let whole = rng.percent(50);
     let card = loop {
         let card = Card { columns: 4, rows: 3, ..card(rng) };
+        if whole {
+            let mut side = || 1_000 * rng.between(100, 4_000) as u32;
+            break Card { dx: side(), dy: side(), dt: rng.pick(&[200, 250, 500, 1_000]), ..card };
+        }
         // two faces of a direction together can use the limit up
         if 1_000 * i64::from(card.dx.max(card.dy)) <= i64::from(card.dt) * 2 * SPEED {
             break card;
@@ -55,14 +60,24 @@ pub fn of_share(rng: &mut Rng) -> Wild {
     let mut site = Wild::empty(card);
     site.state[..12].fill(rng.pick(&[0, 1, 1_000_000]));
     for (i, outer, way) in [(1, 1, -1), (2, 3, 1)] {
-        let along = rng.between(0, (1_000 * dx / dt).min(SPEED));
-        let across = ((1_000 * dx * dy - dt * along * dy) / (dt * dx) + rng.pick(&[0, 0, 0, 1])).min(2 * SPEED);
-        let south = rng.between((across - SPEED).max(0), across.min(SPEED));
-        let faces = [(site.east(outer, 1), way * along), (site.north(i, 1), -south), (site.north(i, 2), across - south)];
+        let (height, along, south, north) = if whole {
+            // so many thousandths of the water over each face, and a number of micrometres that has whole thousandths
+            let along = rng.between(0, 1_000);
+            let south = rng.between(0, 1_000 - along);
+            let north = 1_000 - along - south;
+            (1_000 * rng.scaled(1, HEIGHT / 1_000), along * dx / dt, south * dy / dt, north * dy / dt)
+        } else {
+            let along = rng.between(0, (1_000 * dx / dt).min(SPEED));
+            let across = ((1_000 * dx * dy - dt * along * dy) / (dt * dx)).min(2 * SPEED);
+            let south = rng.between((across - SPEED).max(0), across.min(SPEED));
+            (rng.pick(&[0, 1, 999_983, HEIGHT]), along, south, across - south)
+        };
+        let beyond = rng.pick(&[0, 0, 0, 1]).min(SPEED - north);
+        let faces = [(site.east(outer, 1), way * along), (site.north(i, 1), -south), (site.north(i, 2), north + beyond)];
         for (place, velocity) in faces {
             site.state[place] = velocity as i32;
         }
-        site.state[4 + i as usize] = rng.pick(&[0, 1, 999_983, 1_000_000, HEIGHT]) as i32;
+        site.state[4 + i as usize] = height as i32;
     }
     site
 }

@@ -178,7 +178,7 @@ fn sum(a: i32, b: i32) -> i64 {
 /// Fills a word with a new velocity, and says whether that is in range.
 fn fill(word: &mut i32, velocity: i64) -> bool {
     *word = velocity as i32;
-    i32::try_from(velocity).is_ok_and(speed_fits)
+    i32::try_from(velocity).map_or(false, speed_fits)
 }
 
 fn eastward<const SKIPS: bool>(card: &Card, ground: &[i32], state: &Parts, tide: &Parts, next: &mut [i32]) -> bool {
