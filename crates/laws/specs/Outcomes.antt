@@ -14,6 +14,12 @@ pub first-passed : (k n : ℕ) → k ≡ 0 → firstRefusal k n ≡ n
 unfolding firstRefusal
 first-passed k n e = rw e
 
+-- and the second counts only where the first does not refuse
+pub first-same : (k : ℕ) {n m : ℕ} → (k ≡ 0 → n ≡ m) → firstRefusal k n ≡ firstRefusal k m
+unfolding firstRefusal
+first-same zero h = h refl
+first-same (suc k) h = refl
+
 pub both-passed : (k n : ℕ) → firstRefusal k n ≡ 0 → (k ≡ 0) × (n ≡ 0)
 unfolding firstRefusal
 both-passed zero n e = (refl, e)

@@ -24,6 +24,7 @@ use Rattle.laws.specs.Bounded.{east-share, north-share}
 use Rattle.laws.specs.Keeps.{keeps}
 use Rattle.laws.specs.Runs.{begun}
 use Rattle.laws.specs.Follows.{Follows, follows}
+use Rattle.laws.specs.Outcomes.{first-same}
 use Rattle.promises.specs.NeverInTheMiddle.{OfAStep, done, overTheLimit, tooHigh, tooFast, step-numbers, Ends, ends}
 
 -- ---- Document 01's test for 6
@@ -120,7 +121,7 @@ follows-without-6 c g = record {
 pub run-without-6 : (c : Card) (g s : List ℤ) → check c g s ≡ 0 → runFrom (stepWith6 c g) (c .steps) s ≡ run c g s
 run-without-6 c g s e = follows (follows-without-6 c g) (c .steps) s e tt ∙ sym (begun c g s e)
 
--- ---- No call answers 6, whatever it is lent: the step and the run, which alone give the numbers of a step
+-- ---- Of the calls, whatever they are lent: every answer stays, and none is 6. (Only the step and the run give the numbers of a step.)
 
 of-a-step : {k : ℕ} → OfAStep k → k ≡ 6 → ⊥
 of-a-step done e = omega (arith, e)
@@ -134,6 +135,14 @@ behind-checks zero n l h e = h e
 behind-checks (suc k) n l h e = omega (arith, l, e)
 
 module _ (c : Card) (g s lent : List ℤ) where
+  passes : checkWith c g s (length lent) ≡ 0 → check c g s ≡ 0
+  passes z = sound-check c g s (check-with-sound c g s lent z .sound)
+
+  -- the call's answer is what it would be with the look for 6, for every input
+  pub answer-without-6 : stepAnswer c g s lent ≡ firstRefusal (checkWith c g s (length lent)) (numberWith6 newVelocity c (readGround c g) (readState c s))
+  unfolding stepAnswer stepNumber
+  answer-without-6 = first-same (checkWith c g s (length lent)) (λ z. sym (number-without-6 newVelocity c g s (passes z)))
+
   checks-low : checkWith c g s (length lent) ≤ 3
   unfolding checkWith checkAlso
   checks-low = at-most-3 _ _ _
@@ -151,4 +160,4 @@ module _ (c : Card) (g s lent : List ℤ) where
 
   pub run-never-6 : runTally c g s lent .reason ≡ 6 → ⊥
   unfolding runTally runOutcome
-  run-never-6 = reasons (checkWith c g s (length lent)) checks-low (λ z. sound-check c g s (check-with-sound c g s lent z .sound))
+  run-never-6 = reasons (checkWith c g s (length lent)) checks-low passes

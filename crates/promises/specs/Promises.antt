@@ -41,7 +41,7 @@ pub use Rattle.promises.specs.Searches.{finds, as-long-as-lent, count-at
 pub use Rattle.promises.specs.NothingLost.{step-stays, run-stays, number-stays, was-accepted, was-refused}
 -- of document 02's [7], that refusal 6 has no input: no own share is negative where the step limit is kept; a step's number and a run with document 01's look
 -- for 6 are those without it; neither call ever answers 6
-pub use Rattle.promises.specs.NoNegativeShare.{no-negative-share, number-without-6, run-without-6, step-never-6, run-never-6}
+pub use Rattle.promises.specs.NoNegativeShare.{no-negative-share, number-without-6, run-without-6, answer-without-6, step-never-6, run-never-6}
 
 -- ---- Demand 3
 

@@ -5,7 +5,7 @@ use mathlib.Core.Bool.{Bool, true, false, cond, _&&_, and-false}
 use mathlib.Core.Logic.{_⊎_, inl, inr}
 use mathlib.Core.List.{List, [], _++_}
 use Prim.Native.Nat.{ℕ, zero, suc, _+_, _*_, _≤_, _<_, _^_, zero-le}
-use native.Mathlib.Nat.{suc-ne-zero, lt-irrefl}
+use native.Mathlib.Nat.{suc-ne-zero}
 use native.Mathlib.Omega.{arith}
 use lib.Dec.{T, leb}
 use lib.IntN.{ℤ, pos, natAbs}
@@ -16,9 +16,10 @@ use lib.Ieee.{Float, binary64, lt, ofBits}
 use borrow.Author.Tests.{le-leb, leb-true, leb-false}
 use Rattle.rules.specs.declared.Card.{Card}
 use Rattle.rules.specs.declared.Window.{Window}
-use Rattle.rules.specs.Site.{checkAlso, cardFits, readState, firstOf, firstRefusal}
+use Rattle.rules.specs.Site.{checkAlso, cardFits, readState, firstRefusal}
 use Rattle.rules.specs.Search.{isFinite, edgesFinite, asFloat, inOrder, inside, cellAlong, listed, listedAt, places, listOf, askedFits}
 use Rattle.rules.specs.Calls.{searchCheck, searchPlaces, searchNumber, searchAnswer, searchFound}
+use Rattle.laws.specs.Checks.{at-most-3}
 use Rattle.laws.specs.Facts.{card-facts}
 use Rattle.laws.specs.Outcomes.{both-passed, if-done}
 use Rattle.laws.specs.Sheets.{passed}
@@ -62,20 +63,12 @@ outside w x y o over = ap₂ (inside w) (o .x-whole) (o .y-whole) ∙ go over
 
 -- ---- What a call leaves
 
--- the first three checks never give 8
-checks-below-8 : (card lengths values : Bool) → firstOf card lengths values < 8
-unfolding firstOf
-checks-below-8 false l v = omega arith
-checks-below-8 true false v = omega arith
-checks-below-8 true true false = omega arith
-checks-below-8 true true true = omega arith
-
--- so 8 is a room too short, and no refusal of the checks
-too-short : (number : ℕ) (enough : Bool) → number < 8 → firstRefusal number (cond enough 0 8) ≡ 8 → (number ≡ 0) × (enough ≡ false)
+-- the first three checks give no number above 3, so 8 is a room too short
+too-short : (number : ℕ) (enough : Bool) → number ≤ 3 → firstRefusal number (cond enough 0 8) ≡ 8 → (number ≡ 0) × (enough ≡ false)
 unfolding firstRefusal
 too-short zero true h e = absurd (suc-ne-zero 7 (sym e))
 too-short zero false h e = (refl, refl)
-too-short (suc k) enough h e = absurd (lt-irrefl 8 (subst (λ (n : ℕ). n < 8) e h))
+too-short (suc k) enough h e = absurd (omega (arith, h, e))
 
 module _ (c : Card) (g s xs ys : List ℤ) (w : Window) (depth : ℤ) where
   abbrev isListed : ℕ → Bool
@@ -163,7 +156,7 @@ module _ (c : Card) (g s xs ys : List ℤ) (w : Window) (depth : ℤ) where
     checked-at-8 : searchNumber c g s xs ys w depth lent ≡ 8 → (searchCheck c g s xs ys w depth ≡ 0) × (length lent < length theList)
     unfolding searchNumber searchCheck checkAlso
     checked-at-8 e =
-        let t = too-short (searchCheck c g s xs ys w depth) (leb (length (searchPlaces c g s xs ys w depth)) (length lent)) (checks-below-8 (cardFits c) _ _) e in
+        let t = too-short (searchCheck c g s xs ys w depth) (leb (length (searchPlaces c g s xs ys w depth)) (length lent)) (at-most-3 (cardFits c) _ _) e in
         (t .0, leb-false (length theList) (length lent) (rw (places-passed c g s xs ys w depth (t .0)) at (t .1)))
 
     pub count-at-8 : searchNumber c g s xs ys w depth lent ≡ 8 → TooShort

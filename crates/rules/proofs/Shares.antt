@@ -1,8 +1,7 @@
 -- An own share loses no more than leaves the face's two cells: where neither cell lets out more than it holds, no own share is negative. A definition that takes
 -- a flow off twice is refused here. Document 02's [7] rests on this.
 use Prim.Native.Nat.{ℕ, _+_, _-_, _≤_, zero-le}
-use mathlib.Core.Path.{_≡_, sym, subst}
-use native.Mathlib.Nat.{le-trans, add-le-add}
+use mathlib.Core.Path.{_≡_, subst}
 use native.Mathlib.Omega.{arith}
 use lib.IntN.{ℤ, pos, negsuc, natAbs, _+ℤ_, _-ℤ_, +ℤ-negℤ-cancel}
 use lib.Signed.{leZ}

@@ -10,7 +10,7 @@ use lib.Dec.{T, le→leb}
 use mir.Val.{toZ, ofZ}
 use mir.Syntax.{w32}
 use Rattle.rules.specs.declared.Card.{Card}
-use Rattle.rules.specs.Site.{readGround, readState, heightsFit}
+use Rattle.rules.specs.Site.{readState, heightsFit}
 use Rattle.laws.specs.Sizes.{Within}
 use Rattle.laws.specs.Signed.{word-is}
 use Rattle.laws.specs.Tests.{to-T}
