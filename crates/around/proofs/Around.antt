@@ -22,11 +22,6 @@ unfolding forth
 forth-more true n = omega arith
 forth-more false n = omega arith
 
-pub forth-back : (one : Bool) {n m : ℕ} → n < back one m → forth one n < m
-unfolding forth back
-forth-back true h = omega arith
-forth-back false h = h
-
 -- ---- The cells of an inner face
 
 module _ {c : Card} (east : Bool) (i j : ℕ) (column : forth east i < c .columns) (row : forth (not east) j < c .rows) where

@@ -1,5 +1,5 @@
--- What a step writes fits a word, from the law of the step limit alone (`leaves-at-most`): a new height is at least 0, a transfer at most a height, and no own share
--- is negative.
+-- What follows from the law of the step limit alone (`leaves-at-most`): a new height is at least 0 and a transfer at most a height, so that what a step writes fits
+-- a word; and no own share is negative.
 use Prim.Native.Nat.{ℕ, suc, _+_, _-_, _≤_, _<_, zero-le}
 use mathlib.Core.Path.{_≡_, refl, ap, _∙_, subst}
 use native.Mathlib.Nat.{le-trans}
@@ -108,7 +108,7 @@ module _ (c : Card) (w : Water) (sideX : 0 < c .dx) (sideY : 0 < c .dy) (depths 
   pub new-low : (i j : ℕ) → i < c .columns → j < c .rows → T (leZ (pos 0) (newHeight c w i j))
   new-low i j hi hj = not-below c w i j sideX sideY (low i j hi hj) (within-limit i j hi hj)
 
-  -- an own share loses what leaves K and what leaves L
+  -- an own share loses no more than leaves K and L
   module _ (g : Field) where
     pub east-share : (i j : ℕ) → suc i < c .columns → j < c .rows → T (leZ (pos 0) (ownShare (eastFace c g w i j)))
     unfolding eastFace leaving

@@ -222,6 +222,9 @@ check-with-sound c g s more e =
     let a = granted true (eqb (length more) (stateLength c)) true c g s e in
     record { sound = a .sound; long = eqb→eq (length more) (stateLength c) (a .for-2) }
 
+pub check-of-with : (c : Card) (g s more : List ℤ) → checkWith c g s (length more) ≡ 0 → check c g s ≡ 0
+check-of-with c g s more e = sound-check c g s (check-with-sound c g s more e .sound)
+
 pub sound-check-with : (c : Card) (g s more : List ℤ) → SoundWith c g s more → checkWith c g s (length more) ≡ 0
 unfolding checkWith checkAlso
 sound-check-with c g s more w = rw (eq-eqb (length more) (stateLength c) (w .long)) (together (w .sound))

@@ -8,8 +8,8 @@ use lib.Dec.{T, leb→le}
 use Rattle.rules.specs.declared.Card.{Card}
 use Rattle.rules.specs.Site.{Water}
 use Rattle.rules.specs.Step.{walled, transfer, eastTransfer, northTransfer, forward, backward, withinLimit}
-use Rattle.rules.proofs.Signs.{forward-neg, backward-neg}
 use Rattle.laws.specs.Walls.{behind-has, everywhere}
+use Rattle.laws.specs.Outward.{forward-neg, backward-neg}
 
 -- ---- what leaves cell (i, j) in one step: over each of its four faces what crosses it, if it crosses out of the cell
 

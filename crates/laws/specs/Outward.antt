@@ -1,4 +1,4 @@
--- A number by the way it points (`forward`, `backward`), beside its size and its order. Of a velocity, and of what crosses a face.
+-- A number by the way it points (`forward`, `backward`): turned round, and beside its size and its order. Of a velocity, and of what crosses a face.
 use Prim.Native.Nat.{ℕ, suc, _≤_, zero-le}
 use native.Mathlib.Nat.{le-refl}
 use lib.IntN.{ℤ, pos, negsuc, negℤ, natAbs}
@@ -7,6 +7,8 @@ use lib.Dec.{T, le→leb}
 use Rattle.rules.specs.Step.{forward, backward}
 use Rattle.laws.specs.Numbers.{leZ-refl}
 use Rattle.laws.specs.Sizes.{Within}
+-- turned round
+pub use Rattle.rules.proofs.Signs.{forward-neg, backward-neg}
 
 -- either is at most the size, and where both are at most N the size is
 pub forward-size : (z : ℤ) → forward z ≤ natAbs z

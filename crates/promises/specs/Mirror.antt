@@ -14,7 +14,7 @@ use Rattle.rules.specs.Step.{Rule, eastTransfer, northTransfer, forward, backwa
 use Rattle.rules.proofs.Fair.{transfer-turned, endForEnd, sideForSide, Fair}
 use Rattle.laws.specs.Numbers.{sums}
 use Rattle.laws.specs.Walls.{wall, inside, walled-same, walled-mirror}
-use Rattle.rules.proofs.Signs.{forward-neg, backward-neg}
+use Rattle.laws.specs.Outward.{forward-neg, backward-neg}
 
 pub record MirrorField (m n : ℕ) (f f′ : Field) : Type 0 where
   pub same : (i i′ j : ℕ) → suc (i + i′) ≡ m → j < n → f′ i j ≡ f i′ j

@@ -1,6 +1,6 @@
 -- Document 02, [7]: refusal 6 has no input. Document 01 gave it to a negative own share, and looked for it behind 4 and 5. But where a site passes the first three
--- checks and each of its cells keeps the step limit, no own share is negative. So a step's number with that look is its number without it, a run is the same run,
--- and no call answers 6.
+-- checks and each of its cells keeps the step limit, no own share is negative. (The limit is [9]'s; what keeps document 01's own keeps it too, NothingLost.antt.)
+-- So a step's number with that look is its number without it, a run is the same run, and neither the step nor the run ever answers 6.
 use Prim.Native.Nat.{ℕ, zero, suc, _-_, _≤_, _<_}
 use mathlib.Core.Path.{_≡_, refl, sym, subst, _∙_}
 use mathlib.Core.Bool.{Bool, true, false, _&&_}
@@ -16,15 +16,16 @@ use Rattle.rules.specs.Site.{Water, checkAlso, check, checkWith, firstRefusal, 
 use Rattle.rules.specs.Step.{Rule, eastFace, northFace, ownShare, newVelocity, limitKept, newHeightsFit, newVelocitiesFit, answer, number, stepNumberBy, stepNumber, nextState}
 use Rattle.rules.specs.Run.{Stepping, peak, siteStep, runFrom, runAfter, run}
 use Rattle.rules.specs.Calls.{stepAnswer, runOutcome, runTally}
-use Rattle.laws.specs.Tests.{to-T, and-both}
+use Rattle.laws.specs.Tests.{true-of, to-T, and-both}
 use Rattle.laws.specs.Grids.{allAt-intro}
 use Rattle.laws.specs.Checks.{at-most-3}
-use Rattle.laws.specs.Facts.{Sound, card-facts, sound-depths, check-sound, sound-check, check-with-sound}
+use Rattle.laws.specs.Facts.{card-facts, sound-depths, check-sound, check-of-with}
 use Rattle.laws.specs.Bounded.{east-share, north-share}
 use Rattle.laws.specs.Keeps.{keeps}
 use Rattle.laws.specs.Runs.{begun}
 use Rattle.laws.specs.Follows.{Follows, follows}
 use Rattle.laws.specs.Outcomes.{first-same}
+use Rattle.promises.specs.TheCall.{call-runs}
 use Rattle.promises.specs.NeverInTheMiddle.{OfAStep, done, overTheLimit, tooHigh, tooFast, step-numbers, Ends, ends}
 
 -- ---- Document 01's test for 6
@@ -51,7 +52,7 @@ answerWith6 true true true true = 0
 unfoldable pub numberWith6 : Rule → Card → Field → Water → ℕ
 numberWith6 rule c g w = answerWith6 (limitKept c w) (newHeightsFit c w) (sharesFit c g w) (newVelocitiesFit rule c g w)
 
--- and the step that is refused by it
+-- and the step that has this number
 abbrev pub stepWith6 : Card → (ground : List ℤ) → Stepping
 stepWith6 c g = record { number = λ s. numberWith6 newVelocity c (readGround c g) (readState c s); next = nextState c g; peak = peak c }
 
@@ -62,51 +63,46 @@ pub record NoneNegative (c : Card) (g : Field) (w : Water) : Type 0 where
   pub east : (i j : ℕ) → suc i < c .columns → j < c .rows → T (eastShareFits c g w i j)
   pub north : (i j : ℕ) → i < c .columns → suc j < c .rows → T (northShareFits c g w i j)
 
--- ---- Why
+-- ---- The theorems: of a site that passes the first three checks
 
-module _ (c : Card) (g s : List ℤ) where
-  none : Sound c g s → T (limitKept c (readState c s)) → NoneNegative c (readGround c g) (readState c s)
-  none sound limit =
-      let w = readState c s in
+module _ (c : Card) (g s : List ℤ) (e : check c g s ≡ 0) where
+  pub no-negative-share : limitKept c (readState c s) ≡ true → NoneNegative c (readGround c g) (readState c s)
+  no-negative-share limit =
+      let sound = check-sound c g s e in
       let r = card-facts c (sound .card) in
       let depths = sound-depths c g s sound in
       record {
-        east = east-share c w (omega arith) (omega arith) depths limit (readGround c g);
-        north = north-share c w (omega arith) (omega arith) depths limit (readGround c g);
+        east = east-share c (readState c s) (omega arith) (omega arith) depths (to-T limit) (readGround c g);
+        north = north-share c (readState c s) (omega arith) (omega arith) depths (to-T limit) (readGround c g);
       }
 
-  fit : Sound c g s → T (limitKept c (readState c s)) → T (sharesFit c (readGround c g) (readState c s))
+  -- so document 01's test never fails behind a limit that is kept
+  pub shares-fit : limitKept c (readState c s) ≡ true → sharesFit c (readGround c g) (readState c s) ≡ true
   unfolding sharesFit
-  fit sound limit =
-      let n = none sound limit in
+  shares-fit limit =
+      let n = no-negative-share limit in
       let east = eastShareFits c (readGround c g) (readState c s) in
       let north = northShareFits c (readGround c g) (readState c s) in
-      and-both (allAt (c .columns - 1) (c .rows) east) (allAt (c .columns) (c .rows - 1) north)
+      true-of (allAt (c .columns - 1) (c .rows) east && allAt (c .columns) (c .rows - 1) north)
+      (and-both (allAt (c .columns - 1) (c .rows) east) (allAt (c .columns) (c .rows - 1) north)
       (allAt-intro (c .columns - 1) (c .rows) east (λ i j hi hj. n .east i j (omega arith) hj))
-      (allAt-intro (c .columns) (c .rows - 1) north (λ i j hi hj. n .north i j hi (omega arith)))
+      (allAt-intro (c .columns) (c .rows - 1) north (λ i j hi hj. n .north i j hi (omega arith))))
 
--- a test that passes wherever the one before it does
-pub passed-over : (l h s v : Bool) → (T l → T s) → answerWith6 l h s v ≡ answer l h v
+-- a look that passes wherever the limit is kept changes no number
+pub passed-over : (l h s v : Bool) → (l ≡ true → s ≡ true) → answerWith6 l h s v ≡ answer l h v
 unfolding answer answerWith6
 passed-over false h s v f = refl
-passed-over true false s v f = refl
-passed-over true true false v f = absurd (f tt)
-passed-over true true true false f = refl
-passed-over true true true true f = refl
+passed-over true h s v f = rw (f refl) (last h v)
+  where
+    last : (h v : Bool) → answerWith6 true h true v ≡ answer true h v
+    last false v = refl
+    last true false = refl
+    last true true = refl
 
--- ---- The theorems
-
-pub no-negative-share : (c : Card) (g s : List ℤ) → check c g s ≡ 0 → limitKept c (readState c s) ≡ true → NoneNegative c (readGround c g) (readState c s)
-no-negative-share c g s e limit = none c g s (check-sound c g s e) (to-T limit)
-
--- document 01's test never fails behind a limit that is kept
-pub shares-fit : (c : Card) (g s : List ℤ) → check c g s ≡ 0 → T (limitKept c (readState c s)) → T (sharesFit c (readGround c g) (readState c s))
-shares-fit c g s e = fit c g s (check-sound c g s e)
-
--- whatever rule gives the new velocities
+-- so the step has the same number, whatever rule gives the new velocities
 pub number-without-6 : (rule : Rule) (c : Card) (g s : List ℤ) → check c g s ≡ 0 → numberWith6 rule c (readGround c g) (readState c s) ≡ stepNumberBy rule c g s
 unfolding numberWith6 stepNumberBy number
-number-without-6 rule c g s e = passed-over (limitKept c (readState c s)) _ _ _ (shares-fit c g s e)
+number-without-6 rule c g s e = passed-over (limitKept c (readState c s)) (newHeightsFit c (readState c s)) _ _ (shares-fit c g s e)
 
 follows-without-6 : (c : Card) (g : List ℤ) → Follows (λ s. check c g s ≡ 0) (λ k. Unit {0}) (λ s. s) (siteStep c g) (stepWith6 c g)
 unfolding stepNumber
@@ -118,16 +114,17 @@ follows-without-6 c g = record {
   peaks = λ s e. refl;
 }
 
-pub run-without-6 : (c : Card) (g s : List ℤ) → check c g s ≡ 0 → runFrom (stepWith6 c g) (c .steps) s ≡ run c g s
-run-without-6 c g s e = follows (follows-without-6 c g) (c .steps) s e tt ∙ sym (begun c g s e)
+-- and its run is the same; of the call, lent a scratch list as long as its state
+pub run-without-6 : (c : Card) (g s scratch : List ℤ) → check c g s ≡ 0 → length scratch ≡ length s → runOutcome c g s scratch ≡ runFrom (stepWith6 c g) (c .steps) s
+run-without-6 c g s scratch e l = call-runs c g s scratch l ∙ begun c g s e ∙ sym (follows (follows-without-6 c g) (c .steps) s e tt)
 
--- ---- Of the calls, whatever they are lent: every answer stays, and none is 6. (Only the step and the run give the numbers of a step.)
+-- ---- Of the step and the run, whatever they are lent: every answer stays, and none is 6. (No other call gives the numbers of a step.)
 
-of-a-step : {k : ℕ} → OfAStep k → k ≡ 6 → ⊥
-of-a-step done e = omega (arith, e)
-of-a-step overTheLimit e = omega (arith, e)
-of-a-step tooHigh e = omega (arith, e)
-of-a-step tooFast e = omega (arith, e)
+not-6 : {k : ℕ} → OfAStep k → k ≡ 6 → ⊥
+not-6 done e = omega (arith, e)
+not-6 overTheLimit e = omega (arith, e)
+not-6 tooHigh e = omega (arith, e)
+not-6 tooFast e = omega (arith, e)
 
 behind-checks : (k n : ℕ) → k ≤ 3 → (n ≡ 6 → ⊥) → firstRefusal k n ≡ 6 → ⊥
 unfolding firstRefusal
@@ -135,13 +132,9 @@ behind-checks zero n l h e = h e
 behind-checks (suc k) n l h e = omega (arith, l, e)
 
 module _ (c : Card) (g s lent : List ℤ) where
-  passes : checkWith c g s (length lent) ≡ 0 → check c g s ≡ 0
-  passes z = sound-check c g s (check-with-sound c g s lent z .sound)
-
-  -- the call's answer is what it would be with the look for 6, for every input
   pub answer-without-6 : stepAnswer c g s lent ≡ firstRefusal (checkWith c g s (length lent)) (numberWith6 newVelocity c (readGround c g) (readState c s))
   unfolding stepAnswer stepNumber
-  answer-without-6 = first-same (checkWith c g s (length lent)) (λ z. sym (number-without-6 newVelocity c g s (passes z)))
+  answer-without-6 = first-same (checkWith c g s (length lent)) (λ z. sym (number-without-6 newVelocity c g s (check-of-with c g s lent z)))
 
   checks-low : checkWith c g s (length lent) ≤ 3
   unfolding checkWith checkAlso
@@ -149,15 +142,15 @@ module _ (c : Card) (g s lent : List ℤ) where
 
   pub step-never-6 : stepAnswer c g s lent ≡ 6 → ⊥
   unfolding stepAnswer
-  step-never-6 = behind-checks (checkWith c g s (length lent)) (stepNumber c g s) checks-low (of-a-step (step-numbers c g s))
+  step-never-6 = behind-checks (checkWith c g s (length lent)) (stepNumber c g s) checks-low (not-6 (step-numbers c g s))
 
   reasons : (k : ℕ) → k ≤ 3 → (k ≡ 0 → check c g s ≡ 0) → runAfter k c g s .tally .reason ≡ 6 → ⊥
   unfolding run runAfter
   reasons zero l sound e =
       let z = sound refl in
-      of-a-step (subst (λ (k : ℕ). Ends c g (c .steps) (runAfter k c g s)) z (ends c g s z) .reason) e
+      not-6 (subst (λ (k : ℕ). Ends c g (c .steps) (runAfter k c g s)) z (ends c g s z) .reason) e
   reasons (suc k) l sound e = omega (arith, l, e)
 
   pub run-never-6 : runTally c g s lent .reason ≡ 6 → ⊥
   unfolding runTally runOutcome
-  run-never-6 = reasons (checkWith c g s (length lent)) checks-low passes
+  run-never-6 = reasons (checkWith c g s (length lent)) checks-low (check-of-with c g s lent)

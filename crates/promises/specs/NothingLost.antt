@@ -11,13 +11,15 @@ use lib.ListN.{length}
 use lib.Dec.{T, leb, leb→le, le→leb}
 use Rattle.rules.specs.declared.Card.{Card}
 use Rattle.rules.specs.Grid.{all, allAt}
-use Rattle.rules.specs.Site.{Water, check, firstRefusal, readGround, readState}
+use Rattle.rules.specs.Site.{Water, check, checkWith, firstRefusal, readGround, readState}
 use Rattle.rules.specs.Step.{withinLimit, newVelocity, limitKept, newHeightsFit, newVelocitiesFit, answer, number, stepNumberBy, stepNumber, nextState}
 use Rattle.rules.specs.Run.{Stepping, peak, runFrom, siteStep}
 use Rattle.rules.specs.Calls.{stepAnswer, stepNext, runOutcome}
 use Rattle.rules.specs.Starred.{oneRow, flat, two, passing}
 use Rattle.laws.specs.Grids.{allAt-at, allAt-intro}
 use Rattle.laws.specs.Outward.{forward-size, backward-size}
+use Rattle.laws.specs.Facts.{check-of-with}
+use Rattle.laws.specs.Outcomes.{first-passed, first-same}
 use Rattle.laws.specs.Keeps.{keeps}
 use Rattle.laws.specs.Runs.{begun}
 use Rattle.laws.specs.Follows.{Follows, follows}
@@ -68,15 +70,15 @@ unfolding oldLimitKept limitKept
 site-keeps c w t = allAt-intro (c .columns) (c .rows) (withinLimit c w) (λ i j hi hj. cell-keeps c w i j (allAt-at (c .columns) (c .rows) (withinOldLimit c w) t i j hi hj))
 
 -- so that the answer changes only where it was 4
-answer-stays : (old new h s v : Bool) → (T old → T new) → (T new → T s) → (answerWith6 old h s v ≡ 4 → ⊥) → answer new h v ≡ answerWith6 old h s v
+answer-same : (old new h s v : Bool) → (T old → T new) → (new ≡ true → s ≡ true) → (answerWith6 old h s v ≡ 4 → ⊥) → answer new h v ≡ answerWith6 old h s v
 unfolding answerWith6
-answer-stays false new h s v f k n = absurd (n refl)
-answer-stays true true h s v f k n = sym (passed-over true h s v k)
-answer-stays true false h s v f k n = absurd (f tt)
+answer-same false new h s v f k n = absurd (n refl)
+answer-same true true h s v f k n = sym (passed-over true h s v k)
+answer-same true false h s v f k n = absurd (f tt)
 
 pub number-stays : (c : Card) (g s : List ℤ) → check c g s ≡ 0 → (oldNumber c g s ≡ 4 → ⊥) → stepNumber c g s ≡ oldNumber c g s
 unfolding oldNumber stepNumber stepNumberBy number
-number-stays c g s e = answer-stays (oldLimitKept c (readState c s)) (limitKept c (readState c s)) _ _ _ (site-keeps c (readState c s)) (shares-fit c g s e)
+number-stays c g s e = answer-same (oldLimitKept c (readState c s)) (limitKept c (readState c s)) _ _ _ (site-keeps c (readState c s)) (shares-fit c g s e)
 
 -- a step that was done was not refused by 4
 not-four : {k : ℕ} → k ≡ 0 → k ≡ 4 → ⊥
@@ -96,6 +98,14 @@ follows-old c g = record {
 }
 
 -- ---- The theorems
+
+-- of the call, for every input
+pub answer-stays : (c : Card) (g s next : List ℤ) → (firstRefusal (checkWith c g s (length next)) (oldNumber c g s) ≡ 4 → ⊥)
+    → stepAnswer c g s next ≡ firstRefusal (checkWith c g s (length next)) (oldNumber c g s)
+unfolding stepAnswer
+answer-stays c g s next n =
+    let k = checkWith c g s (length next) in
+    first-same k (λ z. number-stays c g s (check-of-with c g s next z) (λ f. n (first-passed k (oldNumber c g s) z ∙ f)))
 
 pub step-stays : (c : Card) (g s next : List ℤ) → check c g s ≡ 0 → length next ≡ length s → oldNumber c g s ≡ 0 → StillAccepted c g s next
 unfolding firstRefusal

@@ -1,4 +1,4 @@
--- Signs in sums, products and quotients of whole numbers, and of the ways that they point.
+-- Signs in sums, products and quotients of whole numbers; `forward` and `backward` of a number turned round, and of a sum.
 use Prim.Native.Nat.{ℕ, zero, suc, _+_, _-_, _*_, _/_, _≤_, zero-le}
 use mathlib.Core.Path.{_≡_, refl, sym, ap, _∙_}
 use mathlib.Core.Bool.{Bool, true, false, cond}

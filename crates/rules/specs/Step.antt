@@ -200,7 +200,8 @@ newNorth rule c g w i j = walled (c .rows) (λ k. rule (c .dt) (c .dy) (northFac
 unfoldable pub next : Rule → Card → Field → Water → Water
 next rule c g w = record { height = newHeight c w; east = newEast rule c g w; north = newNorth rule c g w }
 
--- ---- The step's number: 0, or the lowest of 4, 5 and 7 that applies. 6 is unused: document 01 gave it to a negative own share, and there is none (document 02, [7])
+-- ---- The step's number: 0, or the lowest of 4, 5 and 7 that applies. 6 is unused: document 01 gave it to a negative own share, and a site that keeps the step limit
+-- has none (document 02, [7])
 
 -- 4: some cell breaks the step limit
 unfoldable pub limitKept : Card → Water → Bool

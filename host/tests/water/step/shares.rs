@@ -1,5 +1,5 @@
-//! Own shares of which nothing is left. An own share loses what leaves its two cells and no more, and under the step limit that is no
-//! more than they hold: so refusal 6 has no input. The model asserts it of every face of every step in these tests.
+//! Own shares of which nothing is left. An own share loses no more than leaves its two cells, and under the step limit that is no more
+//! than they hold: so refusal 6 has no input. The model asserts it of every face of every step in these tests.
 
 use crate::given::Given;
 use crate::library;
@@ -9,8 +9,8 @@ use crate::trials::{single, trials};
 use crate::wild::{self, Wild};
 use water::raw::Card;
 
-/// Two cells in the middle of 4×3, (1, 1) with 1 m of water and (2, 1) with 2 m, and the still face between them. A cell of these sides
-/// stands twice its western and eastern speeds and once its southern and northern ones, up to 20,000,000 in all.
+/// Two cells in the middle of 4×3, (1, 1) with 1 m of water and (2, 1) with 2 m, and the still face between them. In a cell of these sides
+/// twice the speeds out over west and east plus those out over south and north may come to 20,000,000, and here they do.
 fn emptied() -> Wild {
     let mut site = Wild::empty(Card { columns: 4, rows: 3, dx: 1_000_000, dy: 2_000_000, dt: 100, steps: 1 });
     site.state[5] = 1_000_000;
@@ -61,12 +61,30 @@ fn nothing_is_left() {
     assert_eq!(next[4..8], [400_000, 0, 0, 1_200_000]);
     assert_eq!((next[1], next[2], next[9], next[10]), (250_000, 790_000, 350_000, 10_000));
     assert_eq!(next[site.east(2, 1)], 0);
+    // nor of those of the faces on either side, which move: their own velocities are gone, and the surface's slope alone moves them
+    assert_eq!([3, 5].map(|face| model::own_shares(&site.site())[face]), [0, 0]);
+    assert_eq!((next[site.east(1, 1)], next[site.east(3, 1)]), (392_266, -1_176_798));
+}
+
+/// The face in the middle moves: (1, 1) is emptied over it and to the south and north. What flows in from behind brings the velocity of
+/// the face there, and of its own nothing is left.
+#[test]
+fn nothing_is_left_of_a_face_that_moves() {
+    let mut site = emptied();
+    let (behind, own) = (site.east(1, 1), site.east(2, 1));
+    site.state[behind] = 1_234_567;
+    site.state[own] = 4_000_000;
+    assert_eq!(middle_share(&site), 0);
+    let (number, next) = stepped(&site);
+    assert_eq!(number, 0);
+    assert_eq!((next[5], next[6]), (0, 400_000));
+    // less the slope of a surface that stands 400,000 higher in the east
+    assert_eq!(next[own], 1_234_567 - 392_266);
 }
 
 /// One µm/s more over any of the six faces breaks the limit, and the share would be negative; one less leaves something.
 #[test]
 fn both_sides_of_the_brink() {
-    let mut below = 0;
     for place in out_of_both(&emptied()) {
         let mut site = emptied();
         // enough water for one µm/s to be seen
@@ -77,12 +95,11 @@ fn both_sides_of_the_brink() {
         let way = site.state[place].signum();
         site.state[place] += way;
         assert_eq!(stepped(&site).0, 4);
-        below += u32::from(middle_share(&site) < 0);
+        assert!(middle_share(&site) < 0, "without the limit a share may be negative");
         site.state[place] -= 2 * way;
         assert!(middle_share(&site) > 0);
         assert_eq!(stepped(&site).0, 0);
     }
-    assert_eq!(below, 6, "without the limit a share may be negative");
 }
 
 /// Nothing is left of the own share, and water comes in over one side: the new velocity is that of the face that it comes from.
@@ -105,7 +122,7 @@ fn only_what_comes_in() {
     assert_eq!(next[site.east(2, 1)], 1_234_567);
 }
 
-/// Random sites on this brink: nothing, or next to nothing, is left; and no other number than the step's own.
+/// Random sites on this brink: nothing, or next to nothing, is left.
 #[test]
 fn random_brinks() {
     let (mut given, mut nothing, mut shares) = (Given::default(), 0, 0);
@@ -114,10 +131,8 @@ fn random_brinks() {
         let number = stepped(&site).0;
         given.count(number);
         if number == 0 {
-            let share = middle_share(&site);
-            assert!(share >= 0);
             shares += 1;
-            nothing += u64::from(share == 0 && (site.state[5] > 1 || site.state[6] > 1));
+            nothing += u64::from(middle_share(&site) == 0 && (site.state[5] > 1 || site.state[6] > 1));
         }
     });
     println!("own shares: {nothing} of {shares} accepted steps left nothing of two cells with water");

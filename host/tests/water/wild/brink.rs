@@ -1,5 +1,5 @@
-//! Sites on the brink of refusals 4, 5 and 7: exactly within, or beyond by as little as the numbers allow; and on the brink of the unused
-//! 6, which no number goes beyond.
+//! Sites on the brink of refusals 4, 5 and 7: exactly within, or beyond by as little as the numbers allow; and on the brink of a negative
+//! own share, which only a site refused with 4 goes beyond.
 
 use super::{card, Wild, HEIGHT, SPEED};
 use crate::model;
