@@ -3,7 +3,7 @@
 use std::fmt;
 
 /// A refusal, by the number that document 01 gives it ([`Refusal::number`]). 6 is unused: document 01 gave it to a negative own share, and
-/// no site that keeps the step limit has one (document 02, [7]).
+/// no site that keeps the step limit has one (request 7 of document 02).
 #[derive(Clone, Copy, Debug, PartialEq, Eq)]
 pub enum Refusal {
     /// 1: columns, rows, a side, dt or steps wanted outside its range

@@ -1,25 +1,21 @@
 -- A number by the way it points (`forward`, `backward`): turned round, and beside its size and its order. Of a velocity, and of what crosses a face.
-use Prim.Native.Nat.{ℕ, suc, _≤_, zero-le}
-use native.Mathlib.Nat.{le-refl}
+use Prim.Native.Nat.{ℕ, _≤_, zero-le}
+use native.Mathlib.Omega.{arith}
 use lib.IntN.{ℤ, pos, negsuc, negℤ, natAbs}
 use lib.Signed.{leZ}
 use lib.Dec.{T, le→leb}
 use Rattle.rules.specs.Step.{forward, backward}
 use Rattle.laws.specs.Numbers.{leZ-refl}
-use Rattle.laws.specs.Sizes.{Within}
+use Rattle.laws.specs.Sizes.{natAbs-ways, Within}
 -- turned round
 pub use Rattle.rules.proofs.Signs.{forward-neg, backward-neg}
 
 -- either is at most the size, and where both are at most N the size is
 pub forward-size : (z : ℤ) → forward z ≤ natAbs z
-unfolding forward
-forward-size (pos n) = le-refl n
-forward-size (negsuc n) = zero-le
+forward-size z = omega (arith, natAbs-ways z)
 
 pub backward-size : (z : ℤ) → backward z ≤ natAbs z
-unfolding backward
-backward-size (pos n) = zero-le
-backward-size (negsuc n) = le-refl (suc n)
+backward-size z = omega (arith, natAbs-ways z)
 
 pub within-ways : {N : ℕ} (z : ℤ) → forward z ≤ N → backward z ≤ N → Within N z
 unfolding forward backward

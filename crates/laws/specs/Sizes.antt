@@ -1,12 +1,13 @@
 -- The size |z| of an integer: of sums, products and quotients; a bound on it, and what keeps the bound.
-use Prim.Native.Nat.{ℕ, suc, _+_, _*_, _-_, _/_, _≤_, _<_}
+use Prim.Native.Nat.{ℕ, suc, _+_, _*_, _/_, _≤_}
 use mathlib.Core.Path.{_≡_, refl}
-use mathlib.Core.Bool.{Bool, true, false, cond}
 use native.Mathlib.Nat.{le-refl, le-suc, le-trans, le-of-eq, add-le-add, mul-le-mul, mul-le-mul-right, div-le-of-le-mul}
 use native.Mathlib.Omega.{arith}
-use lib.Dec.{T, ltb, ltb→lt, leb→le}
-use lib.IntN.{ℤ, pos, negsuc, negℤ, natAbs, subℕ, _+ℤ_, _-ℤ_, _*ℤ_}
+use lib.Dec.{T, leb→le}
+use lib.IntN.{ℤ, pos, negsuc, negℤ, natAbs, _+ℤ_, _-ℤ_, _*ℤ_}
 use lib.Signed.{mag, quotZ, leZ}
+use Rattle.rules.specs.Step.{forward, backward}
+use Rattle.rules.proofs.Signs.{forward-sum, backward-sum}
 use Rattle.laws.specs.Numbers.{abs-neg}
 
 pub natAbs-mul : (x y : ℤ) → natAbs (x *ℤ y) ≡ natAbs x * natAbs y
@@ -21,18 +22,14 @@ natAbs-quot (pos a) (negsuc b) = abs-neg (pos (a / suc b))
 natAbs-quot (negsuc a) (pos b) = abs-neg (pos (suc a / b))
 natAbs-quot (negsuc a) (negsuc b) = refl
 
-natAbs-sub : (a b n : ℕ) → a ≤ n → b ≤ n → natAbs (subℕ a b) ≤ n
-natAbs-sub a b n p q = pick (ltb a b) (ltb→lt a b)
-  where
-    pick : (t : Bool) → (T t → a < b) → natAbs (cond t (negsuc (b - suc a)) (pos (a - b))) ≤ n
-    pick true f = let h : a < b = f tt in omega arith
-    pick false f = omega arith
+-- what points forward and what points backward make up the size, one of them being 0
+pub natAbs-ways : (z : ℤ) → natAbs z ≡ forward z + backward z
+unfolding forward backward
+natAbs-ways (pos n) = omega arith
+natAbs-ways (negsuc n) = omega arith
 
 pub natAbs-add : (x y : ℤ) → natAbs (x +ℤ y) ≤ natAbs x + natAbs y
-natAbs-add (pos a) (pos b) = le-refl (a + b)
-natAbs-add (pos a) (negsuc b) = natAbs-sub a (suc b) (a + suc b) (omega arith) (omega arith)
-natAbs-add (negsuc a) (pos b) = natAbs-sub b (suc a) (suc a + b) (omega arith) (omega arith)
-natAbs-add (negsuc a) (negsuc b) = omega arith
+natAbs-add x y = rw (natAbs-ways (x +ℤ y), natAbs-ways x, natAbs-ways y) (omega (arith, forward-sum x y, backward-sum x y))
 
 -- `mag`, by which the machine's ranges are stated, is at most the size
 pub mag-le : (z : ℤ) → mag z ≤ natAbs z

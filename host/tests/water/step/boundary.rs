@@ -1,7 +1,7 @@
 //! Refusals 1 to 5 and 7 of the step, each from both sides of its boundary, and the lowest of several. (6 is unused: shares.rs.)
 
+use super::stepped;
 use crate::library;
-use crate::model::TURNS;
 use crate::rng::Rng;
 use crate::wild::Wild;
 use water::raw::Card;
@@ -184,11 +184,7 @@ fn number_of_pair(sides: u32, ground: [i32; 2], heights: [i32; 2], u: i32) -> u3
     site.ground.copy_from_slice(&ground);
     site.state[..2].copy_from_slice(&heights);
     site.state[middle] = u;
-    let number = number_into(&site, 9);
-    for turn in &TURNS {
-        assert_eq!(number_into(&site.turned(turn), 9), number, "{}", turn.name);
-    }
-    number
+    stepped(&site).0
 }
 
 /// Refusal 5: 1,000 flow in; the surface is level afterwards, so that the velocity is out of the way.

@@ -4,10 +4,9 @@
 //! Cells of 100 mm by 200 mm and steps of a second: a cell stands 100,000 over its west and east faces together, or 200,000 over its
 //! south and north ones, or any mixture of them. The sites are dry, so that nothing but the limit can refuse.
 
+use super::stepped;
 use crate::given::Given;
 use crate::library;
-use crate::model::TURNS;
-use crate::rng::Rng;
 use crate::trials::trials;
 use crate::wild::{self, Wild};
 use water::raw::Card;
@@ -17,17 +16,6 @@ const DY: i32 = 200_000;
 
 fn dry(columns: u32, rows: u32) -> Wild {
     Wild::empty(Card { columns, rows, dx: DX as u32, dy: DY as u32, dt: 1_000, steps: 0 })
-}
-
-/// The number of a step of this site, which each of its turns has too.
-fn number(site: &Wild) -> u32 {
-    let step =
-        |site: &Wild| library::step(&mut Rng::new(9), site.card, &site.ground, &site.state, &mut vec![-7; site.state.len()]);
-    let number = step(site);
-    for turn in &TURNS {
-        assert_eq!(step(&site.turned(turn)), number, "{}", turn.name);
-    }
-    number
 }
 
 /// Sets the faces of a cell, each to how fast it lets water out of it (below 0: in).
@@ -42,7 +30,7 @@ fn let_out(site: &mut Wild, (i, j): (u32, u32), [west, east, south, north]: [i32
 fn number_of_cell(columns: u32, rows: u32, cell: (u32, u32), out: [i32; 4]) -> u32 {
     let mut site = dry(columns, rows);
     let_out(&mut site, cell, out);
-    number(&site)
+    stepped(&site).0
 }
 
 /// One face out, on each side of a cell; the others stand still, or let in up to what any cell behind them stands.
@@ -136,7 +124,7 @@ fn channels() {
                 let place = site.east(i, 0);
                 site.state[place] = speed;
             }
-            assert_eq!(number(&site), expected, "{length} cells at {speed}");
+            assert_eq!(stepped(&site).0, expected, "{length} cells at {speed}");
         }
     }
     let ring = |speed: i32, way: i32| {
@@ -153,7 +141,7 @@ fn channels() {
         ] {
             site.state[place] = way * speed;
         }
-        number(&site)
+        stepped(&site).0
     };
     for way in [1, -1] {
         assert_eq!(ring(DX / 2 + 1, way), 0);

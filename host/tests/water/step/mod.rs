@@ -7,3 +7,26 @@ mod random;
 mod shares;
 mod sizes;
 mod still;
+
+use crate::library;
+use crate::model::TURNS;
+use crate::rng::Rng;
+use crate::wild::Wild;
+
+/// The number of a step of this site and the list that it was lent for the next state, which each turn of the site gives turned.
+fn stepped(site: &Wild) -> (u32, Vec<i32>) {
+    let step = |site: &Wild| {
+        let mut next = vec![-7; site.state.len()];
+        (library::step(&mut Rng::new(3), site.card, &site.ground, &site.state, &mut next), next)
+    };
+    let (number, next) = step(site);
+    for turn in &TURNS {
+        let (turned_number, turned_next) = step(&site.turned(turn));
+        assert_eq!(turned_number, number, "{}", turn.name);
+        if number == 0 {
+            let after = Wild { state: next.clone(), ..site.clone() };
+            assert_eq!(turned_next, after.turned(turn).state, "{}", turn.name);
+        }
+    }
+    (number, next)
+}

@@ -1,10 +1,9 @@
 //! Own shares of which nothing is left. An own share loses no more than leaves its two cells, and under the step limit that is no more
 //! than they hold: so refusal 6 has no input. The model asserts it of every face of every step in these tests.
 
+use super::stepped;
 use crate::given::Given;
-use crate::library;
-use crate::model::{self, TURNS};
-use crate::rng::Rng;
+use crate::model;
 use crate::trials::{single, trials};
 use crate::wild::{self, Wild};
 use water::raw::Card;
@@ -26,24 +25,6 @@ fn emptied() -> Wild {
 /// The three outer faces of the one cell, and those of the other.
 fn out_of_both(site: &Wild) -> [usize; 6] {
     [site.east(1, 1), site.north(1, 1), site.north(1, 2), site.east(3, 1), site.north(2, 1), site.north(2, 2)]
-}
-
-/// The number of a step and its next state, which each turn of the site has too.
-fn stepped(site: &Wild) -> (u32, Vec<i32>) {
-    let step = |site: &Wild| {
-        let mut next = vec![-7; site.state.len()];
-        (library::step(&mut Rng::new(3), site.card, &site.ground, &site.state, &mut next), next)
-    };
-    let (number, next) = step(site);
-    for turn in &TURNS {
-        let turned = step(&site.turned(turn));
-        assert_eq!(turned.0, number, "{}", turn.name);
-        if number == 0 {
-            let after = Wild { state: next.clone(), ..site.clone() };
-            assert_eq!(turned.1, after.turned(turn).state, "{}", turn.name);
-        }
-    }
-    (number, next)
 }
 
 /// The own share of the inner eastward face between (1, 1) and (2, 1), the fifth of nine.

@@ -6,20 +6,35 @@ use crate::model;
 use crate::rng::Rng;
 use water::raw::Card;
 
+/// A card of these sizes with which both faces of a direction together can use a cell's step limit up.
+fn quick(rng: &mut Rng, columns: u32, rows: u32) -> Card {
+    loop {
+        let card = Card { columns, rows, ..card(rng) };
+        if 1_000 * i64::from(card.dx.max(card.dy)) <= i64::from(card.dt) * 2 * SPEED {
+            return card;
+        }
+    }
+}
+
+/// How fast a cell may let water out over south and north together, besides so fast over west and east.
+fn left_across(card: &Card, along: i64) -> i64 {
+    let (dx, dy, dt) = (i64::from(card.dx), i64::from(card.dy), i64::from(card.dt));
+    (1_000 * dx * dy - dt * along * dy) / (dt * dx)
+}
+
+/// A sum of two speeds taken apart, each in its range.
+fn apart(rng: &mut Rng, sum: i64) -> (i64, i64) {
+    let first = rng.between((sum - SPEED).max(0), sum.min(SPEED));
+    (first, sum - first)
+}
+
 /// A middle cell whose faces that point out of it meet the step limit exactly, or pass it by as little as the numbers allow; a face that
 /// points into it runs at any speed that the cell behind it stands.
 pub fn of_limit(rng: &mut Rng) -> Wild {
-    let card = loop {
-        let card = Card { columns: 3, rows: 3, ..card(rng) };
-        // both faces of a direction together can use the limit up
-        if 1_000 * i64::from(card.dx.max(card.dy)) <= i64::from(card.dt) * 2 * SPEED {
-            break card;
-        }
-    };
+    let card = quick(rng, 3, 3);
     let (dx, dy, dt) = (i64::from(card.dx), i64::from(card.dy), i64::from(card.dt));
     let west_east = rng.between(0, 1_000 * dx / dt).min(2 * SPEED);
-    let left = 1_000 * dx * dy - dt * west_east * dy;
-    let south_north = (left / (dt * dx) + rng.between(0, 1)).min(2 * SPEED);
+    let south_north = (left_across(&card, west_east) + rng.between(0, 1)).min(2 * SPEED);
     let mut site = Wild::empty(card);
     site.state[..9].fill(rng.pick(&[0, 1, 1_000_000]));
     let faces = [(site.east(1, 1), site.east(2, 1), west_east, dx), (site.north(1, 1), site.north(1, 2), south_north, dy)];
@@ -29,10 +44,7 @@ pub fn of_limit(rng: &mut Rng) -> Wild {
         let (back, forth) = match rng.below(3) {
             0 if sum <= SPEED => (-inward, sum),
             1 if sum <= SPEED => (sum, -inward),
-            _ => {
-                let first = rng.between((sum - SPEED).max(0), sum.min(SPEED));
-                (first, sum - first)
-            }
+            _ => apart(rng, sum),
         };
         site.state[low] = -back as i32;
         site.state[high] = forth as i32;
@@ -44,33 +56,26 @@ pub fn of_limit(rng: &mut Rng) -> Wild {
 /// the step limit or beyond it by as little as the numbers allow. Of what is in them nothing is left, or nearly nothing, and it is all
 /// that the own share of the face between them has.
 pub fn of_share(rng: &mut Rng) -> Wild {
+    let mut card = quick(rng, 4, 3);
+    // sides, a time step and heights with which thousandths of the water are whole numbers
     let whole = rng.percent(50);
-    let card = loop {
-        let card = Card { columns: 4, rows: 3, ..card(rng) };
-        if whole {
-            let mut side = || 1_000 * rng.between(100, 4_000) as u32;
-            break Card { dx: side(), dy: side(), dt: rng.pick(&[200, 250, 500, 1_000]), ..card };
-        }
-        // two faces of a direction together can use the limit up
-        if 1_000 * i64::from(card.dx.max(card.dy)) <= i64::from(card.dt) * 2 * SPEED {
-            break card;
-        }
-    };
+    if whole {
+        let mut side = || 1_000 * rng.between(100, 4_000) as u32;
+        card = Card { dx: side(), dy: side(), dt: rng.pick(&[200, 250, 500, 1_000]), ..card };
+    }
     let (dx, dy, dt) = (i64::from(card.dx), i64::from(card.dy), i64::from(card.dt));
     let mut site = Wild::empty(card);
     site.state[..12].fill(rng.pick(&[0, 1, 1_000_000]));
     for (i, outer, way) in [(1, 1, -1), (2, 3, 1)] {
         let (height, along, south, north) = if whole {
-            // so many thousandths of the water over each face, and a number of micrometres that has whole thousandths
             let along = rng.between(0, 1_000);
             let south = rng.between(0, 1_000 - along);
             let north = 1_000 - along - south;
             (1_000 * rng.scaled(1, HEIGHT / 1_000), along * dx / dt, south * dy / dt, north * dy / dt)
         } else {
             let along = rng.between(0, (1_000 * dx / dt).min(SPEED));
-            let across = ((1_000 * dx * dy - dt * along * dy) / (dt * dx)).min(2 * SPEED);
-            let south = rng.between((across - SPEED).max(0), across.min(SPEED));
-            (rng.pick(&[0, 1, 999_983, HEIGHT]), along, south, across - south)
+            let (south, north) = apart(rng, left_across(&card, along).min(2 * SPEED));
+            (rng.pick(&[0, 1, 999_983, HEIGHT]), along, south, north)
         };
         let beyond = rng.pick(&[0, 0, 0, 1]).min(SPEED - north);
         let faces = [(site.east(outer, 1), way * along), (site.north(i, 1), -south), (site.north(i, 2), north + beyond)];
