@@ -12,7 +12,7 @@ use lib.ListN.{length, getD}
 use lib.Arith.{digits-div, digits-mod, digits-lt}
 use lib.Dec.{T, T-not, not-T}
 use native.Mathlib.Numerals.{add-one}
-use Rattle.rules.specs.Grid.{Field, tabulate, grid, all, allAt, greatest, maxZ}
+use Rattle.rules.specs.Grid.{Field, tabulate, grid, all, allAt, greatest, maxZ, minZ}
 use Rattle.laws.specs.Tests.{both-ways, false-of, and-both, and-left, and-right}
 use Rattle.laws.specs.Numbers.{leZ-trans, leZ-refl, leZ-antisymm}
 
@@ -195,6 +195,20 @@ max-le a b c h k = go (leZ a b)
     go : (t : Bool) → T (leZ (cond t b a) c)
     go true = k
     go false = h
+
+pub min-left : (a b : ℤ) → T (leZ (minZ a b) a)
+min-left a b = go (leZ a b) refl
+  where
+    go : (t : Bool) → leZ a b ≡ t → T (leZ (cond t a b) a)
+    go true e = leZ-refl a
+    go false e = leZ-total a b (rw e tt)
+
+pub min-right : (a b : ℤ) → T (leZ (minZ a b) b)
+min-right a b = go (leZ a b) refl
+  where
+    go : (t : Bool) → leZ a b ≡ t → T (leZ (cond t a b) b)
+    go true e = subst T (sym e) tt
+    go false e = leZ-refl b
 
 greatest-at : (n : ℕ) (f : ℕ → ℤ) (i : ℕ) → i < n → T (leZ (f i) (greatest n f))
 unfolding greatest

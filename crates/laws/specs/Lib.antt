@@ -34,6 +34,9 @@ pub mod Along
 pub mod Sizes
 pub mod Exact
 pub mod Bounded
+pub mod Balance
+pub mod Weighed
+pub mod Totals
 pub mod Tested
 pub mod Lines
 pub mod Behind

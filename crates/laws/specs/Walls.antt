@@ -5,23 +5,16 @@ use mathlib.Core.Bool.{Bool, true, false, cond}
 use native.Mathlib.Omega.{arith}
 use lib.IntN.{ℤ, pos, negℤ}
 use lib.Dec.{T, ltb, ltb→lt, lt→ltb}
-use lib.Arith.{le→nltb}
 use Rattle.rules.specs.Step.{walled}
-use Rattle.laws.specs.Tests.{true-of, false-of, cond-cong}
+use Rattle.laws.specs.Tests.{true-of, cond-cong}
+-- on a wall
+pub use Rattle.rules.proofs.Walls.{wall, on-wall}
 
 -- the test that it makes
-pub wall : (k m : ℕ) (x : ℤ) → m ≤ k → cond (ltb k m) x (pos 0) ≡ pos 0
-wall k m x h = rw (false-of (ltb k m) (le→nltb k m h))
-
 pub inside : (k m : ℕ) (x : ℤ) → k < m → cond (ltb k m) x (pos 0) ≡ x
 inside k m x h = rw (true-of (ltb k m) (lt→ltb k m h))
 
 module _ (n : ℕ) (f : ℕ → ℤ) where
-  pub on-wall : (k : ℕ) → n ≤ k → walled n f k ≡ pos 0
-  unfolding walled
-  on-wall zero h = refl
-  on-wall (suc k) h = wall (suc k) n (f k) h
-
   pub on-inner : (k : ℕ) → suc k < n → walled n f (suc k) ≡ f k
   unfolding walled
   on-inner k h = inside (suc k) n (f k) h

@@ -4,6 +4,9 @@ pub mod TakenTwice
 pub mod NeverInTheMiddle
 pub mod NothingLost
 pub mod NoNegativeShare
+pub mod InnerFaces
+pub mod WaterKept
+pub mod WhatCame
 pub mod Endings
 pub mod Slices
 pub mod SiteSlices

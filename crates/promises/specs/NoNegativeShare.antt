@@ -25,6 +25,7 @@ use Rattle.laws.specs.Keeps.{keeps}
 use Rattle.laws.specs.Runs.{begun}
 use Rattle.laws.specs.Follows.{Follows, follows}
 use Rattle.laws.specs.Outcomes.{first-same}
+use Rattle.promises.specs.InnerFaces.{EveryInner}
 use Rattle.promises.specs.TheCall.{call-runs}
 use Rattle.promises.specs.NeverInTheMiddle.{OfAStep, done, overTheLimit, tooHigh, tooFast, step-numbers, Ends, ends}
 
@@ -59,9 +60,8 @@ stepWith6 c g = record { number = λ s. numberWith6 newVelocity c (readGround c 
 -- ---- What is promised
 
 -- no own share is negative: neither of the face east of a cell nor of the face north of it, wherever there is one
-pub record NoneNegative (c : Card) (g : Field) (w : Water) : Type 0 where
-  pub east : (i j : ℕ) → suc i < c .columns → j < c .rows → T (eastShareFits c g w i j)
-  pub north : (i j : ℕ) → i < c .columns → suc j < c .rows → T (northShareFits c g w i j)
+abbrev pub NoneNegative : Card → Field → Water → Type 0
+NoneNegative c g w = EveryInner c (λ i j. T (eastShareFits c g w i j)) (λ i j. T (northShareFits c g w i j))
 
 -- ---- The theorems: of a site that passes the first three checks
 

@@ -42,6 +42,11 @@ pub use Rattle.promises.specs.NothingLost.{step-stays, run-stays, number
 -- of document 02's [7], that refusal 6 has no input: no own share is negative where the step limit is kept; a step's number, its answer and a run with document
 -- 01's look for 6 are those without it; neither the step nor the run ever answers 6
 pub use Rattle.promises.specs.NoNegativeShare.{no-negative-share, number-without-6, run-without-6, answer-without-6, step-never-6, run-never-6}
+-- of document 02's [8], that no water is made and none is lost: the sum of all heights after a step, and after a run whatever its reason, is that before; so of the
+-- public calls; and how great it can be
+pub use Rattle.promises.specs.WaterKept.{next-sum-by, next-sum, run-sum, sum-of-the-step, sum-of-the-run, sum-fits}
+-- and that what is carried stays between what came: the balance of each inner face, with the bounds of the carried part of its new velocity, walls having velocity 0
+pub use Rattle.promises.specs.WhatCame.{balance, carried-between, slope-put-back, brought-nothing, walls-are-0}
 
 -- ---- Demand 3
 

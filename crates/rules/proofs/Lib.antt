@@ -1,3 +1,5 @@
 pub mod Signs
 pub mod Shares
 pub mod Fair
+pub mod Walls
+pub mod Sums

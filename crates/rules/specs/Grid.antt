@@ -2,7 +2,7 @@
 use Prim.Native.Nat.{ℕ, zero, suc, _*_, _/_, _%_}
 use mathlib.Core.Bool.{Bool, true, cond, _&&_}
 use mathlib.Core.List.{List, [], _∷_}
-use lib.IntN.{ℤ, pos}
+use lib.IntN.{ℤ, pos, _+ℤ_}
 use lib.Signed.{leZ}
 
 -- a number at each column and row
@@ -27,11 +27,23 @@ all (suc n) p = all n p && p n
 unfoldable pub allAt : (columns rows : ℕ) → (ℕ → ℕ → Bool) → Bool
 allAt columns rows p = all rows (λ j. all columns (λ i. p i j))
 
--- the greater of two numbers
+-- the greater of two numbers, and the lesser
 abbrev pub maxZ : ℤ → ℤ → ℤ
 maxZ a b = cond (leZ a b) b a
+
+abbrev pub minZ : ℤ → ℤ → ℤ
+minZ a b = cond (leZ a b) a b
 
 -- the greatest of 0, f 0 .. f (n - 1)
 unfoldable pub greatest : ℕ → (ℕ → ℤ) → ℤ
 greatest zero f = pos 0
 greatest (suc n) f = maxZ (greatest n f) (f n)
+
+-- f 0, f 1 .. up to, not including, f n, added up
+unfoldable pub sum : ℕ → (ℕ → ℤ) → ℤ
+sum zero f = pos 0
+sum (suc n) f = sum n f +ℤ f n
+
+-- a field added up, over every place of a rectangle
+unfoldable pub sumAt : (columns rows : ℕ) → Field → ℤ
+sumAt columns rows f = sum rows (λ j. sum columns (λ i. f i j))

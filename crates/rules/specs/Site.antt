@@ -7,7 +7,7 @@ use lib.IntN.{ℤ, pos, natAbs}
 use lib.Signed.{leZ}
 use lib.Dec.{leb, eqb}
 use Rattle.rules.specs.declared.Card.{Card}
-use Rattle.rules.specs.Grid.{Field, grid, all, allAt}
+use Rattle.rules.specs.Grid.{Field, grid, all, allAt, sumAt}
 
 -- ---- The layout. Cell (i, j) is in column i and row j. Its west face is eastward face (i, j), its east face (i + 1, j); its south face is
 -- northward face (i, j), its north face (i, j + 1).
@@ -39,6 +39,14 @@ readState c s = record {
 -- and a state written
 unfoldable pub writeState : Card → Water → List ℤ
 writeState c w = grid (c .columns) (c .rows) (w .height) ++ (grid (suc (c .columns)) (c .rows) (w .east) ++ grid (c .columns) (suc (c .rows)) (w .north))
+
+-- ---- The water on a site (document 02, [8]): the sum of all heights, over the cells themselves; and so of a state
+
+unfoldable pub sumOfHeights : Card → Water → ℤ
+sumOfHeights c w = sumAt (c .columns) (c .rows) (w .height)
+
+unfoldable pub stateSum : Card → (state : List ℤ) → ℤ
+stateSum c s = sumOfHeights c (readState c s)
 
 -- ---- Refusal 1: columns, rows, a side, dt or steps outside its range
 

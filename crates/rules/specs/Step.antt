@@ -154,13 +154,31 @@ outBelow f = negℤ (f .belowK +ℤ f .belowL)
 unfoldable pub positive : ℤ → ℤ
 positive flow = pos (forward flow)
 
--- own share: H = hK + hL less all flow out
+-- old sum H = hK + hL, and new sum H'
+abbrev pub oldSum : Face → ℤ
+oldSum f = f .oldK +ℤ f .oldL
+
+abbrev pub newSum : Face → ℤ
+newSum f = f .newK +ℤ f .newL
+
+-- own share: H less all flow out
 unfoldable pub ownShare : Face → ℤ
-ownShare f = f .oldK +ℤ f .oldL -ℤ (positive (outAhead f) +ℤ positive (outBehind f) +ℤ (positive (outAbove f) +ℤ positive (outBelow f)))
+ownShare f = oldSum f -ℤ (positive (outAhead f) +ℤ positive (outBehind f) +ℤ (positive (outAbove f) +ℤ positive (outBelow f)))
+
+-- flow in, which is a flow out that is negative, turned round
+abbrev pub flowIn : (out : ℤ) → ℤ
+flowIn out = positive (negℤ out)
+
+-- all flow in; and the flow over all four dual edges together, out less in. By the balance (13), H' is H less `flowOver`: it is the own share and `allFlowIn`
+abbrev pub allFlowIn : Face → ℤ
+allFlowIn f = flowIn (outAhead f) +ℤ flowIn (outBehind f) +ℤ (flowIn (outAbove f) +ℤ flowIn (outBelow f))
+
+abbrev pub flowOver : Face → ℤ
+flowOver f = outAhead f +ℤ outBehind f +ℤ (outAbove f +ℤ outBelow f)
 
 -- flow in, times the velocity of the parallel face that it comes from; a wall face gives 0, its velocity being 0
 unfoldable pub brought : (out v : ℤ) → ℤ
-brought out v = positive (negℤ out) *ℤ v
+brought out v = flowIn out *ℤ v
 
 -- A = own share · u + the sum of flow in · its velocity
 unfoldable pub carried : Face → ℤ
@@ -180,9 +198,12 @@ slope dt d f = quotZ (pos (9806650 * dt) *ℤ rise f) (pos (1000 * d))
 
 -- ---- New velocity, (7d): 0 if H' = 0, otherwise trunc(A / H') − S
 
+-- the carried part, before the slope is taken off
+abbrev pub carriedPart : Face → ℤ
+carriedPart f = quotZ (carried f) (newSum f)
+
 unfoldable pub newVelocity : (dt d : ℕ) → Face → ℤ
-newVelocity dt d f =
-    cond (isZero (f .newK +ℤ f .newL)) (pos 0) (quotZ (carried f) (f .newK +ℤ f .newL) -ℤ slope dt d f)
+newVelocity dt d f = cond (isZero (newSum f)) (pos 0) (carriedPart f -ℤ slope dt d f)
 
 -- ---- The next state, over the rule that gives an inner face its new velocity. Document 01's rule is `newVelocity`.
 
