@@ -112,6 +112,22 @@ static void hand_back(void) {
 #define LEND(list) lend(list, sizeof list)
 #define SAME(list, expected) (memcmp(list, expected, sizeof expected) == 0)
 
+/* ---- how much water there is, as the header says */
+
+__extension__ typedef unsigned __int128 Volume;
+
+static int64_t sum_of_heights(WaterCard site, const int32_t *state) {
+    int64_t sum = 0;
+    for (uint32_t k = 0; k < site.columns * site.rows; k++) {
+        sum += state[k];
+    }
+    return sum;
+}
+
+static Volume volume(WaterCard site, const int32_t *state) {
+    return (Volume)sum_of_heights(site, state) * site.dx * site.dy;
+}
+
 /* ---- the numbers */
 
 static const WaterCard card = {2, 1, 1000000, 1000000, 100, 0};
@@ -124,7 +140,7 @@ static uint32_t step(const int32_t ground[2], const int32_t state[9], int32_t ne
     int32_t *n = LEND(as_lent);
     uint32_t number = water_step(card, g, 2, s, 9, n, 9);
     EXPECT(memcmp(g, ground, 8) == 0 && memcmp(s, state, 36) == 0);
-    EXPECT(number == 0 || SAME(n, as_lent));
+    EXPECT(number == 0 ? sum_of_heights(card, n) == sum_of_heights(card, state) : SAME(n, as_lent));
     memcpy(next, n, 36);
     hand_back();
     return number;
@@ -291,7 +307,9 @@ static void largest(void) {
     const WaterChamber *c = LEND(chambers);
     uint32_t *found = LEND(places);
     EXPECT(water_step(big, g, CELLS, s, WORDS, n, WORDS) == 0);
+    EXPECT(volume(big, n) == volume(big, s));
     WaterTally tally = water_run(big, g, CELLS, s, WORDS, n, WORDS);
+    EXPECT(volume(big, s) == volume(big, state) && volume(big, s) / 1000000 / 1000000 == (Volume)CELLS * 1000000 + (Volume)CELLS * (CELLS - 1) / 2);
     EXPECT(tally.steps == 5 && tally.reason == 0 && n[0] == 0 && n[WORDS - 1] == 0);
     WaterFound answer = water_search(big, g, CELLS, s, WORDS, c, 1000, all, 0, found, 1000);
     EXPECT(answer.number == 0 && answer.count == 1000 && found[999] == 999);

@@ -221,6 +221,29 @@ impl Site {
         self.heights()[row as usize * self.card.columns as usize + column as usize]
     }
 
+    /// How much water is on the site, in cubic micrometres: the sum of all heights times the area of a cell. It is exact, and no step and
+    /// no run changes it, whatever the run's reason.
+    ///
+    /// A litre has 10^15 of them. The sum of a site's heights is at most 819,200,000,000 and an area at most 4·10^14, so that a volume
+    /// takes up to 89 bits: a `u128` holds each, and a `u64` would not.
+    ///
+    /// ```
+    /// # use water::{Card, Refusal, Site};
+    /// let card = Card { columns: 2, rows: 1, dx: 1_000_000, dy: 500_000, dt: 100, steps: 25 };
+    /// let mut site = Site::still(card, vec![0, 0], &[2_000_000, 1_000_000])?;
+    /// let first = site.volume();
+    /// assert_eq!(first, 3_000_000 * 1_000_000 * 500_000);
+    /// assert_eq!(first / 10_u128.pow(15), 1_500); // litres
+    /// site.run();
+    /// assert_eq!(site.volume(), first);
+    /// # Ok::<(), Refusal>(())
+    /// ```
+    pub fn volume(&self) -> u128 {
+        // no height of a site is below 0
+        let sum: u64 = self.heights().iter().map(|height| u64::from(height.unsigned_abs())).sum();
+        u128::from(sum) * u128::from(self.card.dx) * u128::from(self.card.dy)
+    }
+
     /// The depth text of one cell.
     ///
     /// # Panics

@@ -16,17 +16,22 @@ pub fn step(rng: &mut Rng, card: Card, ground: &[i32], state: &[i32], next: &mut
     g.assert_holds(ground);
     s.assert_holds(state);
     n.assert_holds(next);
+    if number == 0 {
+        assert_eq!(model::sum_of_heights(&card, next), model::sum_of_heights(&card, state), "no water is made and none is lost");
+    }
     number
 }
 
 pub fn run(rng: &mut Rng, card: Card, ground: &[i32], state: &mut [i32], scratch: &mut [i32]) -> Tally {
     let (g, s, t) = (Lent::new(rng, "ground", ground), Lent::new(rng, "state", state), Lent::new(rng, "scratch", scratch));
     let tally = unsafe { raw::water_run(card, g.pointer(), g.length(), s.pointer(), s.length(), t.pointer(), t.length()) };
+    let before = model::sum_of_heights(&card, state);
     let expected = model::run(card, ground, state, scratch);
     assert_eq!(tally, expected, "run of {card:?}");
     g.assert_holds(ground);
     s.assert_holds(state);
     t.assert_holds(scratch);
+    assert_eq!(model::sum_of_heights(&card, state), before, "no water is made and none is lost, whatever the reason");
     tally
 }
 

@@ -24,6 +24,7 @@ mod search;
 mod sheet;
 mod stack;
 mod step;
+mod sums;
 mod text;
 mod threads;
 mod turns;

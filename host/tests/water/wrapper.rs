@@ -2,9 +2,9 @@
 
 use crate::given::Given;
 use crate::lent::hurt_length;
-use crate::model;
+use crate::model::{self, TURNS};
 use crate::trials::{single, trials};
-use crate::wild;
+use crate::wild::{self, Wild};
 use std::ops::ControlFlow;
 use water::{calls, Card, Chamber, Refusal, Site, Tally, Window};
 
@@ -126,6 +126,40 @@ fn a_column_too_far_east() {
 #[should_panic(expected = "row 2 of 2")]
 fn a_row_too_far_north() {
     six_cells().height(0, 2);
+}
+
+/// Heights times a cell's area, to the last cubic micrometre, for the least and the most water that there can be.
+#[test]
+fn the_volume_of_a_site() {
+    assert_eq!(six_cells().volume(), 21 * 1_000_000 * 1_000_000);
+    let card = Card { columns: 128, rows: 128, dx: 20_000_000, dy: 20_000_000, dt: 1, steps: 0 };
+    let filled = |card: Card, height: i32| {
+        let cells = card.cells();
+        Site::still(card, vec![0; cells], &vec![height; cells]).unwrap().volume()
+    };
+    assert_eq!(filled(card, 0), 0);
+    assert_eq!(filled(card, 50_000_000), 327_680_000_000_000_000_000_000_000);
+    assert!(filled(card, 50_000_000) > u64::MAX.into(), "a u64 does not hold it");
+    assert_eq!(filled(Card { columns: 1, rows: 1, dx: 100_000, dy: 100_001, ..card }, 1), 10_000_100_000);
+}
+
+/// No step and no run changes it, and no turn of the site does.
+#[test]
+fn the_volume_stays() {
+    trials("volume", 500, |rng| {
+        let start = wild::good(rng);
+        let volume = |site: &Wild| Site::new(site.card, site.ground.clone(), site.state.clone()).unwrap().volume();
+        let sum = u128::try_from(model::sum_of_heights(&start.card, &start.state)).unwrap();
+        assert_eq!(volume(&start), sum * u128::from(start.card.dx) * u128::from(start.card.dy));
+        for turn in &TURNS {
+            assert_eq!(volume(&start.turned(turn)), volume(&start), "{}", turn.name);
+        }
+        let mut site = Site::new(start.card, start.ground.clone(), start.state.clone()).unwrap();
+        let _ = site.step();
+        assert_eq!(site.volume(), volume(&start));
+        site.run();
+        assert_eq!(site.volume(), volume(&start));
+    });
 }
 
 /// What a step or a run leaves behind in the spare list is no part of a site.

@@ -18,6 +18,11 @@ pub fn state_length(card: &Card) -> usize {
     columns * rows + (columns + 1) * rows + columns * (rows + 1)
 }
 
+/// The sum of all heights of a state; of a list that is too short for the card, of what there is.
+pub fn sum_of_heights(card: &Card, state: &[i32]) -> i128 {
+    state.iter().take(cells(card)).map(|&height| i128::from(height)).sum()
+}
+
 /// A card with its ground and its state, read by column and row. Cell (i, j) has the eastward faces i (west) and i + 1 (east) of
 /// row j, and the northward faces j (south) and j + 1 (north) of column i.
 #[derive(Clone, Copy)]

@@ -141,6 +141,29 @@ impl Face {
         self.own_share() * self.u + self.edges.iter().map(|edge| (-edge.out).max(0) * edge.beyond).sum::<i128>()
     }
 
+    /// H' is the own share and all flow in, the paper's balance (13).
+    fn balances(&self) -> bool {
+        self.new_sum == self.own_share() + self.edges.iter().map(|edge| (-edge.out).max(0)).sum::<i128>()
+    }
+
+    /// The carried part of the new velocity, before the slope is taken off: trunc(A/H'), where H' is above 0.
+    fn carried_part(&self) -> i128 {
+        self.carried() / self.new_sum
+    }
+
+    /// The velocities that count: the face's own, and those of the parallel neighbours that brought water in.
+    fn who_counts(&self) -> impl Iterator<Item = i128> + '_ {
+        std::iter::once(self.u).chain(self.edges.iter().filter(|edge| edge.out < 0).map(|edge| edge.beyond))
+    }
+
+    fn least(&self) -> i128 {
+        self.who_counts().min().expect("its own counts")
+    }
+
+    fn greatest(&self) -> i128 {
+        self.who_counts().max().expect("its own counts")
+    }
+
     /// S = trunc(9,806,650·dt·((hL'+zL) − (hK'+zK)) / (1000·d)); Rust's quotient goes towards zero.
     fn slope(&self) -> i128 {
         GRAVITY * i128::from(self.dt) * self.rise / (1_000 * i128::from(self.d))
@@ -151,7 +174,7 @@ impl Face {
         if self.new_sum == 0 {
             0
         } else {
-            self.carried() / self.new_sum - self.slope()
+            self.carried_part() - self.slope()
         }
     }
 }
@@ -165,6 +188,22 @@ pub fn own_shares(site: &Site) -> Vec<i128> {
     Moving::of(site).inner_faces().iter().map(Face::own_share).collect()
 }
 
+/// What is carried over one inner face, and between what it stays.
+pub struct Carried {
+    pub least: i128,
+    pub part: i128,
+    pub greatest: i128,
+    pub slope: i128,
+}
+
+/// Of each inner face of a site that passes the first three checks, eastward ones first; none where H' is 0.
+pub fn carried_parts(site: &Site) -> Vec<Option<Carried>> {
+    let faces = Moving::of(site).inner_faces();
+    let carried =
+        |face: &Face| Carried { least: face.least(), part: face.carried_part(), greatest: face.greatest(), slope: face.slope() };
+    faces.iter().map(|face| if face.new_sum == 0 { None } else { Some(carried(face)) }).collect()
+}
+
 /// One step of a site that passes the first three checks: the next state, or the lowest of 4, 5 and 7 that applies.
 pub fn advance(site: &Site) -> Result<Vec<i32>, u32> {
     let (columns, rows) = (site.columns(), site.rows());
@@ -172,10 +211,14 @@ pub fn advance(site: &Site) -> Result<Vec<i32>, u32> {
         return Err(4);
     }
     let moving = Moving::of(site);
-    assert!(
-        moving.inner_faces().iter().all(|face| face.own_share() >= 0),
-        "the step limit keeps own shares at or above 0, so that 6 has no input"
-    );
+    for face in moving.inner_faces() {
+        assert!(face.own_share() >= 0, "the step limit keeps own shares at or above 0, so that 6 has no input");
+        assert!(face.balances(), "H' is the own share and all flow in");
+        if face.new_sum > 0 {
+            let part = face.carried_part();
+            assert!(face.least() <= part && part <= face.greatest(), "what is carried stays between what came");
+        }
+    }
     if moving.new_heights.numbers.iter().any(|&height| height > 50_000_000) {
         return Err(5);
     }
