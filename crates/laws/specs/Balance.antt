@@ -1,14 +1,18 @@
 -- The balance of a face's cell, document 002's (13): its new sum is its old sum less the flow out over its four dual edges, and so its own share and all flow in.
 -- It holds of every face that a site has, whatever the site holds.
 use Prim.Native.Nat.{ℕ, zero, suc}
-use mathlib.Core.Path.{_≡_, refl, sym, ap, ap₂, _∙_}
+use mathlib.Core.Path.{_≡_, refl, ap, ap₂, _∙_}
 use lib.IntN.{ℤ, pos, negsuc, negℤ, _+ℤ_, _-ℤ_, +ℤ-idl, +ℤ-idr}
 use Rattle.rules.specs.declared.Card.{Card}
 use Rattle.rules.specs.declared.Face.{Face}
 use Rattle.rules.specs.Grid.{Field}
 use Rattle.rules.specs.Site.{Water}
-use Rattle.rules.specs.Step.{forward, newHeight, eastFace, northFace, outAhead, outBehind, outAbove, outBelow, positive, oldSum, newSum, ownShare, flowIn, allFlowIn, flowOver}
+use Rattle.rules.specs.Step.{forward, newHeight, eastFace, northFace, outAhead, outBehind, outAbove, outBelow, positive, oldSum, newSum, ownShare, flowIn, allFlowIn}
 use Rattle.laws.specs.Numbers.{sums}
+
+-- the flow over all four dual edges, as (13) adds it up
+abbrev pub flowOver : Face → ℤ
+flowOver f = outAhead f +ℤ outBehind f +ℤ (outAbove f +ℤ outBelow f)
 
 -- a flow is what of it goes out, less what of it comes in
 out-less-in : (out : ℤ) → positive out -ℤ flowIn out ≡ out

@@ -38,6 +38,11 @@ pub leZ-refl : (a : ℤ) → T (leZ a a)
 leZ-refl (pos a) = le→leb a a (le-refl a)
 leZ-refl (negsuc a) = le→leb a a (le-refl a)
 
+-- a negated one is at most any other that is not
+pub leZ-signs : (a b : ℕ) → T (leZ (negℤ (pos a)) (pos b))
+leZ-signs zero b = le→leb 0 b zero-le
+leZ-signs (suc a) b = tt
+
 -- ---- the order, sums and signs
 
 diff : (a b : ℤ) → T (leZ a b) → (k : ℕ) × (b ≡ a +ℤ pos k)

@@ -1,5 +1,5 @@
 -- What is 0 on walls and f between them (`walled`): on a wall, inside, what holds of it everywhere, two of them alike, and one the mirror image of the other.
-use Prim.Native.Nat.{ℕ, zero, suc, _+_, _≤_, _<_}
+use Prim.Native.Nat.{ℕ, zero, suc, _+_, _<_}
 use mathlib.Core.Path.{_≡_, refl, sym, ap, _∙_}
 use mathlib.Core.Bool.{Bool, true, false, cond}
 use native.Mathlib.Omega.{arith}

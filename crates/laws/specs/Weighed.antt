@@ -1,25 +1,21 @@
 -- A mean of velocities, each weighed by a flow, lies on the same side of a number as all those velocities whose weight is above 0: so does the carried part of a
 -- face's new velocity. Said once for both sides, over the order.
 use Prim.Native.Nat.{ℕ, zero, suc, _+_, _*_, _/_, _<_, suc-le-suc, zero-le}
-use mathlib.Core.Path.{_≡_, sym, ap, ap₂, _∙_, subst}
+use mathlib.Core.Path.{_≡_, sym, ap, _∙_, subst}
 use native.Mathlib.Nat.{mul-le-mul-left, add-mul, mul-comm, le-div-iff-mul-le, div-le-of-le-mul}
 use lib.IntN.{ℤ, pos, negsuc, negℤ, _+ℤ_, _*ℤ_, negℤ-+ℤ, negℤ-negℤ, zero-*ℤ}
 use lib.Signed.{leZ, ltZ, quotZ}
 use lib.Dec.{T, leb→le, le→leb, ltb→lt, lt→ltb}
 use Rattle.rules.specs.declared.Face.{Face}
 use Rattle.rules.specs.Step.{forward, outAhead, outBehind, outAbove, outBelow, positive, newSum, ownShare, flowIn, allFlowIn, brought, carried, carriedPart}
-use Rattle.laws.specs.Numbers.{leZ-refl, leZ-add, leZ-neg, mul-neg, neg-quot}
+use Rattle.laws.specs.Numbers.{leZ-refl, leZ-trans, leZ-signs, leZ-add, leZ-neg, mul-neg, neg-quot}
 
 -- ---- the order under a weight, and under a quotient towards zero
-
-below : (a b : ℕ) → T (leZ (negℤ (pos a)) (pos b))
-below zero b = le→leb 0 b zero-le
-below (suc a) b = tt
 
 times : (n : ℕ) (a b : ℤ) → T (leZ a b) → T (leZ (pos n *ℤ a) (pos n *ℤ b))
 times n (pos a) (pos b) t = le→leb (n * a) (n * b) (mul-le-mul-left n (leb→le a b t))
 times n (pos a) (negsuc b) t = absurd t
-times n (negsuc a) (pos b) t = below (n * suc a) (n * b)
+times n (negsuc a) (pos b) t = leZ-signs (n * suc a) (n * b)
 times n (negsuc a) (negsuc b) t = leZ-neg (pos (n * suc b)) (pos (n * suc a)) (le→leb (n * suc b) (n * suc a) (mul-le-mul-left n (suc-le-suc (leb→le b a t))))
 
 over : (n : ℕ) (m a : ℤ) → 0 < n → T (leZ (pos n *ℤ m) a) → T (leZ m (quotZ a (pos n)))
@@ -42,6 +38,7 @@ under n m a h t =
 
 pub record Side (R : ℤ → ℤ → Type 0) : Type 0 where
   pub same : (a : ℤ) → R a a
+  pub through : (a b c : ℤ) → R a b → R b c → R a c
   pub add : (a b c d : ℤ) → R a b → R c d → R (a +ℤ c) (b +ℤ d)
   pub weigh : (n : ℕ) (a b : ℤ) → R a b → R (pos n *ℤ a) (pos n *ℤ b)
   pub divide : (n : ℕ) (m a : ℤ) → 0 < n → R (pos n *ℤ m) a → R m (quotZ a (pos n))
@@ -53,10 +50,10 @@ abbrev pub AtMost : ℤ → ℤ → Type 0
 AtMost m v = T (leZ v m)
 
 pub at-least : Side AtLeast
-at-least = record { same = leZ-refl; add = leZ-add; weigh = times; divide = over }
+at-least = record { same = leZ-refl; through = leZ-trans; add = leZ-add; weigh = times; divide = over }
 
 pub at-most : Side AtMost
-at-most = record { same = leZ-refl; add = λ a b c d. leZ-add b a d c; weigh = λ n a b. times n b a; divide = under }
+at-most = record { same = leZ-refl; through = λ a b c p q. leZ-trans c b a q p; add = λ a b c d. leZ-add b a d c; weigh = λ n a b. times n b a; divide = under }
 
 -- the weights of one number, added up
 weights : (a b : ℕ) (z : ℤ) → pos (a + b) *ℤ z ≡ pos a *ℤ z +ℤ pos b *ℤ z
@@ -64,8 +61,8 @@ weights a b (pos n) = ap pos (add-mul a b n)
 weights a b (negsuc n) = ap (λ (m : ℕ). negℤ (pos m)) (add-mul a b (suc n)) ∙ negℤ-+ℤ (pos (a * suc n)) (pos (b * suc n))
 
 -- P of a neighbour's velocity, if its flow in is above 0
-abbrev pub IfBrought : (P : ℤ → Type 0) (out v : ℤ) → Type 0
-IfBrought P out v = T (ltZ (pos 0) (flowIn out)) → P v
+abbrev pub WhereBrought : (P : ℤ → Type 0) (out v : ℤ) → Type 0
+WhereBrought P out v = T (ltZ (pos 0) (flowIn out)) → P v
 
 module _ {R : ℤ → ℤ → Type 0} (𝓢 : Side R) (m : ℤ) where
   part : (n : ℕ) (v : ℤ) → (0 < n → R m v) → R (pos n *ℤ m) (pos n *ℤ v)
@@ -87,12 +84,12 @@ module _ {R : ℤ → ℤ → Type 0} (𝓢 : Side R) (m : ℤ) where
 
   -- ---- of a face: its own velocity counts, and that of a neighbour which brought water in
 
-  counts : (out v : ℤ) → IfBrought (R m) out v → 0 < forward (negℤ out) → R m v
+  counts : (out v : ℤ) → WhereBrought (R m) out v → 0 < forward (negℤ out) → R m v
   unfolding positive
   counts out v h l = h (lt→ltb 0 (forward (negℤ out)) l)
 
   pub carried-side : (f : Face) → T (leZ (pos 0) (ownShare f)) → newSum f ≡ ownShare f +ℤ allFlowIn f → T (ltZ (pos 0) (newSum f))
-      → R m (f .u) → IfBrought (R m) (outAhead f) (f .uAhead) → IfBrought (R m) (outBehind f) (f .uBehind) → IfBrought (R m) (outAbove f) (f .uAbove) → IfBrought (R m) (outBelow f) (f .uBelow)
+      → R m (f .u) → WhereBrought (R m) (outAhead f) (f .uAhead) → WhereBrought (R m) (outBehind f) (f .uBehind) → WhereBrought (R m) (outAbove f) (f .uAbove) → WhereBrought (R m) (outBelow f) (f .uBelow)
       → R m (carriedPart f)
   unfolding carried brought positive
   carried-side f l e h p q r t z =

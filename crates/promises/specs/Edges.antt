@@ -12,9 +12,10 @@ use lib.Ieee.{Float, nan, inf, fin, up, down, binary64, lt, le, ofInt}
 use lib.Ieee.Exact.{HasValue}
 use lib.Ieee.Back.{round-whole}
 use lib.Ieee.Fits.{down-pos}
-use borrow.Author.Tests.{lt-ltb, le-ltb, le-leb, lt-leb, eq-eqb, ne-eqb, leb-true, leb-false}
+use borrow.Author.Tests.{lt-ltb, le-ltb, lt-leb, eq-eqb, ne-eqb, leb-true, leb-false}
 use Rattle.rules.specs.Search.{asFloat, inOrder}
-use Rattle.laws.specs.Tests.{both-ways}
+use Rattle.laws.specs.Tests.{both-ways, true-of}
+use Rattle.laws.specs.Numbers.{leZ-signs}
 
 -- ---- Exact numbers. A finite float is ±m · 2 ^ e, that is ±(m · up e) / down e, where 2 ^ e is up e / down e.
 
@@ -53,10 +54,6 @@ neg-le zero zero = refl
 neg-le zero (suc b) = simp (lt-ltb 0 (zero + suc b) (omega arith))
 neg-le (suc a) b = simp (lt-ltb 0 (suc a + b) (omega arith))
 
-neg-leZ : (a b : ℕ) → leZ (negℤ (pos a)) (pos b) ≡ true
-neg-leZ zero b = le-leb 0 b (omega arith)
-neg-leZ (suc a) b = refl
-
 -- b ≤ -a, as the floats' `le` has it
 le-neg : (b a : ℕ) → (false || (eqb b a && (false || eqb b 0))) ≡ leZ (pos b) (negℤ (pos a))
 le-neg zero zero = refl
@@ -93,7 +90,7 @@ at-most-value x (fin true m′ d) n v = absurd (true≢false (v .0))
 at-most-value nan (fin false m′ d) n v = refl
 at-most-value (inf true) (fin false m′ d) n v = refl
 at-most-value (inf false) (fin false m′ d) n v = refl
-at-most-value (fin true m e) (fin false m′ d) n v = neg-le (m * up e * down d) (m′ * up d * down e) ∙ sym (neg-leZ (m * up e) (n * down e))
+at-most-value (fin true m e) (fin false m′ d) n v = neg-le (m * up e * down d) (m′ * up d * down e) ∙ sym (true-of (leZ (negℤ (pos (m * up e))) (pos (n * down e))) (leZ-signs (m * up e) (n * down e)))
 at-most-value (fin false m e) (fin false m′ d) n v =
     le-is (m * up e * down d) (m′ * up d * down e)
     ∙ ap (λ (z : ℕ). leb (m * up e * down d) z) (whole m′ d n e (v .1))

@@ -6,6 +6,9 @@ pub mod NothingLost
 pub mod NoNegativeShare
 pub mod InnerFaces
 pub mod WaterKept
+pub mod Brought
+pub mod OneSide
+pub mod WallsAre0
 pub mod WhatCame
 pub mod Endings
 pub mod Slices

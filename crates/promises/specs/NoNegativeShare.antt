@@ -1,7 +1,7 @@
 -- Document 02, [7]: refusal 6 has no input. Document 01 gave it to a negative own share, and looked for it behind 4 and 5. But where a site passes the first three
 -- checks and each of its cells keeps the step limit, no own share is negative. (The limit is [9]'s; what keeps document 01's own keeps it too, NothingLost.antt.)
 -- So a step's number with that look is its number without it, a run is the same run, and neither the step nor the run ever answers 6.
-use Prim.Native.Nat.{ℕ, zero, suc, _-_, _≤_, _<_}
+use Prim.Native.Nat.{ℕ, zero, suc, _-_, _≤_}
 use mathlib.Core.Path.{_≡_, refl, sym, subst, _∙_}
 use mathlib.Core.Bool.{Bool, true, false, _&&_}
 use mathlib.Core.List.{List}

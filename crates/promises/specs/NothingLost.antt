@@ -15,7 +15,7 @@ use Rattle.rules.specs.Site.{Water, check, checkWith, firstRefusal, readGround,
 use Rattle.rules.specs.Step.{withinLimit, newVelocity, limitKept, newHeightsFit, newVelocitiesFit, answer, number, stepNumberBy, stepNumber, nextState}
 use Rattle.rules.specs.Run.{Stepping, peak, runFrom, siteStep}
 use Rattle.rules.specs.Calls.{stepAnswer, stepNext, runOutcome}
-use Rattle.rules.specs.Starred.{oneRow, flat, two, passing}
+use Rattle.rules.specs.Starred.{oneRow, flat, two, passing, through}
 use Rattle.laws.specs.Grids.{allAt-at, allAt-intro}
 use Rattle.laws.specs.Outward.{forward-size, backward-size}
 use Rattle.laws.specs.Facts.{check-of-with}
@@ -124,6 +124,6 @@ pub was-accepted : oldLimitKept (oneRow 2) (readState (oneRow 2) (two (pos 20000
 unfolding oneRow flat two all allAt readState withinOldLimit oldLimitKept
 was-accepted = refl
 
-pub was-refused : oldNumber (oneRow 3) (flat 3) (passing (pos 1000000) (pos 1000000) (pos 1000000) (pos 6000000) (pos 6000000)) ≡ 4
-unfolding oneRow flat passing all allAt readState withinOldLimit oldLimitKept oldNumber answerWith6
+pub was-refused : oldNumber (oneRow 3) (flat 3) through ≡ 4
+unfolding oneRow flat passing through all allAt readState withinOldLimit oldLimitKept oldNumber answerWith6
 was-refused = refl

@@ -45,8 +45,9 @@ pub use Rattle.promises.specs.NoNegativeShare.{no-negative-share, number
 -- of document 02's [8], that no water is made and none is lost: the sum of all heights after a step, and after a run whatever its reason, is that before; so of the
 -- public calls; and how great it can be
 pub use Rattle.promises.specs.WaterKept.{next-sum-by, next-sum, run-sum, sum-of-the-step, sum-of-the-run, sum-fits}
--- and that what is carried stays between what came: the balance of each inner face, with the bounds of the carried part of its new velocity, walls having velocity 0
-pub use Rattle.promises.specs.WhatCame.{balance, carried-between, slope-put-back, brought-nothing, walls-are-0}
+-- and that what is carried stays between what came: the balance of each inner face; the bounds of the carried part of its new velocity; who does not count, walls, and
+-- what lies beyond them; and, on numbers, bounds that are met
+pub use Rattle.promises.specs.WhatCame.{balance, carried-between, slope-put-back, brought-nothing, walls-are-0, no-flow-beyond, bounds-on-numbers}
 
 -- ---- Demand 3
 

@@ -3,11 +3,10 @@
 use Prim.Native.Nat.{ℕ, zero, suc, _*_, _/_}
 use mathlib.Core.Path.{_≡_, refl, sym, ap}
 use mathlib.Core.Bool.{Bool, true, false, cond}
-use lib.IntN.{ℤ, pos, negsuc, negℤ, natAbs, _+ℤ_, _-ℤ_, _*ℤ_, negℤ-negℤ, negℤ-+ℤ, +ℤ-comm}
-use lib.Signed.{quotZ}
+use lib.IntN.{ℤ, pos, negsuc, negℤ, natAbs, _-ℤ_, _*ℤ_, negℤ-negℤ, negℤ-+ℤ, +ℤ-comm}
 use Rattle.rules.specs.declared.Face.{Face}
 use Rattle.rules.specs.Site.{isZero}
-use Rattle.rules.specs.Step.{Rule, transfer, outAhead, outBehind, outAbove, outBelow, positive, ownShare, brought, carried, rise, slope, newVelocity}
+use Rattle.rules.specs.Step.{Rule, transfer, outAhead, outBehind, outAbove, outBelow, positive, newSum, ownShare, brought, carried, carriedPart, rise, slope, newVelocity}
 use Rattle.rules.proofs.Signs.{mul-neg, neg-quot, sums, turned-difference}
 
 -- a face turned end for end: K and L change places, ahead and behind too, and what is directed is negated
@@ -136,7 +135,7 @@ module _ (f : Face) where
   unfolding newVelocity endForEnd
   velocity-by-ends dt d =
       rw (carried-by-ends, slope-by-ends, +ℤ-comm (f .newL) (f .newK))
-      (neg-difference (isZero (f .newK +ℤ f .newL)) (quotZ (carried f) (f .newK +ℤ f .newL)) _ (slope dt d f) (neg-quot (carried f) (f .newK +ℤ f .newL)))
+      (neg-difference (isZero (newSum f)) (carriedPart f) _ (slope dt d f) (neg-quot (carried f) (newSum f)))
 
   velocity-by-sides : (dt d : ℕ) → newVelocity dt d (sideForSide f) ≡ newVelocity dt d f
   unfolding newVelocity sideForSide slope rise

@@ -1,13 +1,13 @@
 -- No water is made and none is lost: what leaves a cell over a face comes to the cell behind that face, and nothing crosses a wall. So all new heights add up to what
 -- all old ones do, whatever they are. A definition that loses something on the way, or leaves cells out of the sum, is refused here. Document 02's [8] rests on this.
-use Prim.Native.Nat.{ℕ, zero, suc, _<_, suc-le-suc, zero-le}
+use Prim.Native.Nat.{ℕ, zero, suc, _<_}
 use mathlib.Core.Path.{_≡_, refl, sym, ap, ap₂, _∙_}
 use native.Mathlib.Nat.{le-refl}
 use native.Mathlib.Omega.{arith}
 use lib.IntN.{ℤ, pos, _+ℤ_, _-ℤ_, +ℤ-assoc, +ℤ-idl, +ℤ-idr, +ℤ-invr, -ℤ-+ℤ-cancel}
 use Rattle.rules.specs.declared.Card.{Card}
-use Rattle.rules.specs.Grid.{Field, sum, sumAt}
-use Rattle.rules.specs.Site.{Water, sumOfHeights}
+use Rattle.rules.specs.Grid.{sum, sumAt}
+use Rattle.rules.specs.Site.{Water}
 use Rattle.rules.specs.Step.{walled, eastTransfer, northTransfer, newHeight}
 use Rattle.rules.proofs.Signs.{sums}
 use Rattle.rules.proofs.Walls.{on-wall}
@@ -18,10 +18,6 @@ pub sum-same : (n : ℕ) (f g : ℕ → ℤ) → ((k : ℕ) → k < n → f k �
 unfolding sum
 sum-same zero f g h = refl
 sum-same (suc n) f g h = ap₂ _+ℤ_ (sum-same n f g (λ k l. h k (omega arith))) (h n (le-refl (suc n)))
-
-pub sumAt-same : (m n : ℕ) (f g : Field) → ((i j : ℕ) → i < m → j < n → f i j ≡ g i j) → sumAt m n f ≡ sumAt m n g
-unfolding sumAt
-sumAt-same m n f g h = sum-same n _ _ (λ j hj. sum-same m _ _ (λ i hi. h i j hi hj))
 
 sum-plus : (n : ℕ) (f g : ℕ → ℤ) → sum n (λ k. f k +ℤ g k) ≡ sum n f +ℤ sum n g
 unfolding sum
@@ -67,24 +63,25 @@ module _ (c : Card) (w : Water) where
       none-crosses (c .rows) northward (sum-none (c .columns))
       (sum-same (c .columns) _ _ (λ i h. on-wall (c .rows) _ (c .rows) (le-refl (c .rows))) ∙ sum-none (c .columns))
 
-  apart : (h t u v x : ℤ) → h +ℤ t -ℤ u +ℤ v -ℤ x ≡ h +ℤ (t -ℤ u +ℤ (v -ℤ x))
-  apart h t u v x = simp sums
+  -- a cell: what it held, and what came, less what went, each way
+  cell : (i j : ℕ) → newHeight c w i j ≡ w .height i j +ℤ (eastTransfer c w i j -ℤ eastTransfer c w (suc i) j +ℤ (northTransfer c w i j -ℤ northTransfer c w i (suc j)))
+  unfolding newHeight
+  cell i j = simp sums
 
   -- a row: what it held, and what came from the row before, less what went to the next
   row : (j : ℕ) → sum (c .columns) (λ i. newHeight c w i j) ≡ sum (c .columns) (λ i. w .height i j) +ℤ (northward j -ℤ northward (suc j))
-  unfolding newHeight
   row j =
-      sum-same (c .columns) _ _ (λ i h. apart (w .height i j) (eastTransfer c w i j) (eastTransfer c w (suc i) j) (northTransfer c w i j) (northTransfer c w i (suc j)))
+      sum-same (c .columns) _ _ (λ i h. cell i j)
       ∙ sum-plus (c .columns) (λ i. w .height i j) _
       ∙ ap (λ (x : ℤ). sum (c .columns) (λ i. w .height i j) +ℤ x)
       (sum-plus (c .columns) (λ i. eastTransfer c w i j -ℤ eastTransfer c w (suc i) j) _
       ∙ ap₂ _+ℤ_ (along j) (sum-minus (c .columns) (λ i. northTransfer c w i j) (λ i. northTransfer c w i (suc j)))
       ∙ +ℤ-idl (northward j -ℤ northward (suc j)))
 
-  -- and all rows, whatever velocities come with the new heights
-  pub sum-kept : (east north : Field) → sumOfHeights c (record { height = newHeight c w; east = east; north = north }) ≡ sumOfHeights c w
-  unfolding sumOfHeights sumAt
-  sum-kept east north =
+  -- and all rows
+  pub sum-kept : sumAt (c .columns) (c .rows) (newHeight c w) ≡ sumAt (c .columns) (c .rows) (w .height)
+  unfolding sumAt
+  sum-kept =
       sum-same (c .rows) _ _ (λ j h. row j)
       ∙ sum-plus (c .rows) (λ j. sum (c .columns) (λ i. w .height i j)) _
       ∙ ap (λ (x : ℤ). sum (c .rows) (λ j. sum (c .columns) (λ i. w .height i j)) +ℤ x) across

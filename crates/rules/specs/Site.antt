@@ -40,13 +40,10 @@ readState c s = record {
 unfoldable pub writeState : Card → Water → List ℤ
 writeState c w = grid (c .columns) (c .rows) (w .height) ++ (grid (suc (c .columns)) (c .rows) (w .east) ++ grid (c .columns) (suc (c .rows)) (w .north))
 
--- ---- The water on a site (document 02, [8]): the sum of all heights, over the cells themselves; and so of a state
+-- ---- How much water a state has (document 02, [8]): the sum of all heights
 
-unfoldable pub sumOfHeights : Card → Water → ℤ
-sumOfHeights c w = sumAt (c .columns) (c .rows) (w .height)
-
-unfoldable pub stateSum : Card → (state : List ℤ) → ℤ
-stateSum c s = sumOfHeights c (readState c s)
+unfoldable pub sumOfHeights : Card → (state : List ℤ) → ℤ
+sumOfHeights c s = sumAt (c .columns) (c .rows) (readState c s .height)
 
 -- ---- Refusal 1: columns, rows, a side, dt or steps outside its range
 

@@ -1,12 +1,12 @@
--- Document 01, "Numbers to check by": the starred cases, in a single table under a single claim, proved by computation; and the case of document 02's [9].
+-- Document 01, "Numbers to check by": the starred cases, in a single table under a single claim, proved by computation; and cases of document 02's [9] and [8].
 use Prim.Native.Nat.{ℕ}
 use mathlib.Core.Path.{_≡_, refl}
-use mathlib.Core.List.{List, [], _∷_}
+use mathlib.Core.List.{List, [], _∷_, _++_}
 use lib.ListN.{replicate}
 use lib.IntN.{ℤ, pos, negℤ}
 use Rattle.rules.specs.declared.Card.{Card}
-use Rattle.rules.specs.Grid.{tabulate, grid, all, allAt, greatest}
-use Rattle.rules.specs.Site.{readGround, readState, writeState, stateLength, sizesFit, sidesFit, timesFit, cardFits, lengthsFit, groundsFit, heightsFit, velocitiesFit, wallsStill, valuesFit, firstOf, checkAlso, checkWith, firstRefusal, ifDone}
+use Rattle.rules.specs.Grid.{tabulate, grid, all, allAt, greatest, sum, sumAt}
+use Rattle.rules.specs.Site.{readGround, readState, writeState, stateLength, sumOfHeights, sizesFit, sidesFit, timesFit, cardFits, lengthsFit, groundsFit, heightsFit, velocitiesFit, wallsStill, valuesFit, firstOf, checkAlso, checkWith, firstRefusal, ifDone}
 use Rattle.rules.specs.Step.{walled, transfer, eastTransfer, northTransfer, forward, backward, withinLimit, newHeight, after, before, eastFace, northFace, outAhead, outBehind, outAbove, outBelow, positive, ownShare, brought, carried, rise, slope, newVelocity, newEast, newNorth, next, limitKept, newHeightsFit, newVelocitiesFit, answer, number, stepNumberBy, nextStateBy, stepNumber, nextState}
 use Rattle.rules.specs.Text.{digitsOf, decimal, heightText, depthText}
 use Rattle.rules.specs.Calls.{stepAnswer, stepNext}
@@ -30,6 +30,17 @@ passing a b c u v = a ∷ b ∷ c ∷ pos 0 ∷ u ∷ v ∷ pos 0 ∷ flat 6
 unfoldable pub three : (west middle east : ℤ) → List ℤ
 three a b c = passing a b c (pos 0) (pos 0)
 
+-- document 02's case of [9]: water that passes through, both inner faces at 6,000,000
+unfoldable pub through : List ℤ
+through = passing (pos 1000000) (pos 1000000) (pos 1000000) (pos 6000000) (pos 6000000)
+
+-- two columns and two rows; a state of theirs: four heights, six eastward velocities, six northward ones of which the first inner one may move
+unfoldable pub square : Card
+square = record { columns = 2; rows = 2; dx = 1000000; dy = 1000000; dt = 100; steps = 1 }
+
+unfoldable pub four : (southwest southeast northwest northeast north : ℤ) → List ℤ
+four a b c d v = a ∷ b ∷ c ∷ d ∷ (flat 6 ++ (pos 0 ∷ pos 0 ∷ v ∷ flat 3))
+
 -- a row of the table, where the list that is lent for the next state holds the state itself: the step is accepted, and leaves this state there
 abbrev pub Steps : (columns : ℕ) (ground state then : List ℤ) → Type 0
 Steps columns g s then = (stepAnswer (oneRow columns) g s s ≡ 0) × (stepNext (oneRow columns) g s s ≡ then)
@@ -47,9 +58,11 @@ pub record Starred : Type 0 where
   pub over-limit : Refuses 2 (flat 2) (two (pos 2000000) (pos 1000000) (pos 10000001)) 4
   -- so it does to the west, out of the other cell
   pub over-limit-west : Refuses 2 (flat 2) (two (pos 2000000) (pos 1000000) (negℤ (pos 10000001))) 4
-  -- document 02, [9]: water passes through the middle cell, both inner faces at 6,000,000
-  pub passed-through :
-      Steps 3 (flat 3) (passing (pos 1000000) (pos 1000000) (pos 1000000) (pos 6000000) (pos 6000000)) (passing (pos 400000) (pos 1000000) (pos 1600000) (pos 2840172) (pos 5411601))
+  -- document 02, [9]: water passes through the middle cell
+  pub passed-through : Steps 3 (flat 3) through (passing (pos 400000) (pos 1000000) (pos 1600000) (pos 2840172) (pos 5411601))
+  -- document 02, [8]: each cell counts once in the sum of heights; and of 3 µm 1 crosses to the north, and none is lost
+  pub each-once : sumOfHeights square (four (pos 1) (pos 20) (pos 300) (pos 4000) (pos 0)) ≡ pos 4321
+  pub one-crosses : sumOfHeights square (nextState square (flat 4) (four (pos 3) (pos 0) (pos 0) (pos 0) (pos 5000000))) ≡ pos 3
   -- from height 3 at 5,000,000: 1; at -5,000,000: -1, not -2; the water comes from K, or from L, and the other cell is dry
   pub transfer-east : transfer 100 1000000 (pos 3) (pos 0) (pos 5000000) ≡ pos 1
   pub transfer-west : transfer 100 1000000 (pos 0) (pos 3) (negℤ (pos 5000000)) ≡ negℤ (pos 1)
@@ -64,7 +77,7 @@ pub record Starred : Type 0 where
   pub text-15000 : depthText (pos 15000) ≡ 50 ∷ 32 ∷ 99 ∷ 109 ∷ []
 
 pub starred : Starred
-unfolding oneRow flat two passing three tabulate grid all allAt greatest readGround readState writeState stateLength sizesFit sidesFit timesFit cardFits lengthsFit groundsFit heightsFit velocitiesFit wallsStill valuesFit firstOf checkAlso checkWith firstRefusal ifDone walled transfer eastTransfer northTransfer forward backward withinLimit newHeight after before eastFace northFace outAhead outBehind outAbove outBelow positive ownShare brought carried rise slope newVelocity newEast newNorth next limitKept newHeightsFit newVelocitiesFit answer number stepNumberBy nextStateBy stepNumber nextState digitsOf decimal heightText depthText stepAnswer stepNext
+unfolding oneRow flat two passing three through square four tabulate grid all allAt greatest sum sumAt readGround readState writeState stateLength sumOfHeights sizesFit sidesFit timesFit cardFits lengthsFit groundsFit heightsFit velocitiesFit wallsStill valuesFit firstOf checkAlso checkWith firstRefusal ifDone walled transfer eastTransfer northTransfer forward backward withinLimit newHeight after before eastFace northFace outAhead outBehind outAbove outBelow positive ownShare brought carried rise slope newVelocity newEast newNorth next limitKept newHeightsFit newVelocitiesFit answer number stepNumberBy nextStateBy stepNumber nextState digitsOf decimal heightText depthText stepAnswer stepNext
 starred = record {
   first-step = (refl, refl);
   second-step = (refl, refl);
@@ -72,6 +85,8 @@ starred = record {
   over-limit = (refl, refl);
   over-limit-west = (refl, refl);
   passed-through = (refl, refl);
+  each-once = refl;
+  one-crosses = refl;
   transfer-east = refl;
   transfer-west = refl;
   still-pond = (refl, refl);

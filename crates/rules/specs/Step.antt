@@ -161,20 +161,21 @@ oldSum f = f .oldK +ℤ f .oldL
 abbrev pub newSum : Face → ℤ
 newSum f = f .newK +ℤ f .newL
 
+-- all flow out
+abbrev pub allFlowOut : Face → ℤ
+allFlowOut f = positive (outAhead f) +ℤ positive (outBehind f) +ℤ (positive (outAbove f) +ℤ positive (outBelow f))
+
 -- own share: H less all flow out
 unfoldable pub ownShare : Face → ℤ
-ownShare f = oldSum f -ℤ (positive (outAhead f) +ℤ positive (outBehind f) +ℤ (positive (outAbove f) +ℤ positive (outBelow f)))
+ownShare f = oldSum f -ℤ allFlowOut f
 
 -- flow in, which is a flow out that is negative, turned round
 abbrev pub flowIn : (out : ℤ) → ℤ
 flowIn out = positive (negℤ out)
 
--- all flow in; and the flow over all four dual edges together, out less in. By the balance (13), H' is H less `flowOver`: it is the own share and `allFlowIn`
+-- all flow in: with the own share it makes up H', by the balance (13)
 abbrev pub allFlowIn : Face → ℤ
 allFlowIn f = flowIn (outAhead f) +ℤ flowIn (outBehind f) +ℤ (flowIn (outAbove f) +ℤ flowIn (outBelow f))
-
-abbrev pub flowOver : Face → ℤ
-flowOver f = outAhead f +ℤ outBehind f +ℤ (outAbove f +ℤ outBelow f)
 
 -- flow in, times the velocity of the parallel face that it comes from; a wall face gives 0, its velocity being 0
 unfoldable pub brought : (out v : ℤ) → ℤ
