@@ -17,8 +17,9 @@
  * then (columns+1)*rows eastward velocities, then columns*(rows+1) northward velocities. Micrometres and micrometres a second.
  *
  * Volume: no water is made and none is lost. The sum of a state's columns*rows heights is the same after water_step with 0, and after
- * water_run whatever its reason. Taken in 64 bits it cannot overflow, being at most 819,200,000,000; times dx*dy it is the volume in
- * cubic micrometres (10^15 to the litre), which takes up to 89 bits: a 128-bit integer where the compiler has one.
+ * water_run whatever its reason. Of a state in range it is at most 819,200,000,000: add it up in 64 bits. Times dx and times dy, each
+ * widened first (dx*dy alone takes up to 49 bits), it is the volume in cubic micrometres (10^15 to the litre), up to 89 bits: a 128-bit
+ * integer where the compiler has one. To compare two states of one site the sums are enough.
  *
  * Stack that a call takes, in bytes, where the archive is rt's for x86-64. A thread takes some for itself besides, and so does a
  * loader that binds memcpy and memset only when they are first called.

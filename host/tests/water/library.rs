@@ -1,6 +1,7 @@
 //! Each call of the library on fenced lists, beside the model: both get the same input, and every answer and every element of every
 //! lent list is compared. A call that leaves a list at one end meets a fence; one that writes within 1,024 bytes of the other end
-//! spoils a pattern. Each function returns the answer that both gave.
+//! spoils a pattern. Each function returns the answer that both gave. Of every step and every run the sums of all heights are compared
+//! too, before and after.
 
 use crate::lent::Lent;
 use crate::model;

@@ -7,7 +7,7 @@ use crate::wild::Wild;
 use std::ops::ControlFlow;
 use water::{Card, Site};
 
-/// A lake of 128×128 cells, so deep, with a swell of its own in each cell that `swell` says, and a velocity on each inner face there.
+/// A lake of 128×128 cells, so deep, with a swell wherever `swell` says so, and velocities on the inner faces there.
 fn lake(rng: &mut Rng, card: Card, depth: i64, swell: impl Fn(u32, u32) -> bool) -> Wild {
     let mut site = Wild::empty(card);
     for j in 0..128 {
@@ -27,19 +27,17 @@ fn lake(rng: &mut Rng, card: Card, depth: i64, swell: impl Fn(u32, u32) -> bool)
     site
 }
 
-/// The run, with a look at the volume after each quarter of it; how many steps it did.
-fn keeps_its_water(start: &Wild) -> u32 {
-    let steps = start.card.steps;
+/// Runs for all its steps, with a look at the volume after each quarter of them.
+fn keeps_its_water(start: &Wild) {
     let mut site = Site::new(start.card, start.ground.clone(), start.state.clone()).unwrap();
     let volume = site.volume();
-    let heights = site.heights().to_vec();
-    let tally = site.run_in_slices((steps / 4).max(1), |site, _| {
+    let tally = site.run_in_slices(start.card.steps / 4, |site, _| {
         assert_eq!(site.volume(), volume, "no water is made and none is lost");
         ControlFlow::Continue(())
     });
-    assert_eq!(site.volume(), volume, "whatever the reason");
-    assert!(tally.steps == 0 || site.heights() != heights, "the water moved");
-    tally.steps
+    assert_eq!((tally.steps, tally.reason), (start.card.steps, None));
+    let moved = site.heights().iter().zip(&start.state).filter(|(now, then)| now != then).count();
+    assert!(moved > 500, "only {moved} heights changed");
 }
 
 /// 10,000 steps on 128×128: wide cells, short steps and shallow water, so that the swell stays near where it is and most rows lie still.
@@ -54,9 +52,9 @@ fn ten_thousand_steps() {
             dt: 1,
             steps: 10_000,
         };
-        let (column, row) = (rng.below(120) as u32, rng.below(125) as u32);
-        let site = lake(rng, card, 200_000, |i, j| (column..column + 8).contains(&i) && (row..row + 3).contains(&j));
-        assert_eq!(keeps_its_water(&site), 10_000);
+        let (column, row) = (rng.below(80) as u32, rng.below(104) as u32);
+        let site = lake(rng, card, 200_000, |i, j| (column..column + 48).contains(&i) && (row..row + 24).contains(&j));
+        keeps_its_water(&site);
     });
 }
 
@@ -75,6 +73,6 @@ fn swell_all_over() {
         };
         let depth = rng.between(1_000_000, 3_000_000);
         let site = lake(rng, card, depth, |_, _| true);
-        assert_eq!(keeps_its_water(&site), card.steps);
+        keeps_its_water(&site);
     });
 }

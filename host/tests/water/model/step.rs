@@ -117,6 +117,13 @@ struct Edge {
     beyond: i128,
 }
 
+impl Edge {
+    /// Flow in: what flows out, if that is negative, turned round.
+    fn flow_in(&self) -> i128 {
+        (-self.out).max(0)
+    }
+}
+
 /// One inner face between K and L, with all that its new velocity needs.
 struct Face {
     dt: u32,
@@ -138,12 +145,12 @@ impl Face {
 
     /// A = own share·u + the sum of flow in·its velocity.
     fn carried(&self) -> i128 {
-        self.own_share() * self.u + self.edges.iter().map(|edge| (-edge.out).max(0) * edge.beyond).sum::<i128>()
+        self.own_share() * self.u + self.edges.iter().map(|edge| edge.flow_in() * edge.beyond).sum::<i128>()
     }
 
     /// H' is the own share and all flow in, the paper's balance (13).
     fn balances(&self) -> bool {
-        self.new_sum == self.own_share() + self.edges.iter().map(|edge| (-edge.out).max(0)).sum::<i128>()
+        self.new_sum == self.own_share() + self.edges.iter().map(Edge::flow_in).sum::<i128>()
     }
 
     /// The carried part of the new velocity, before the slope is taken off: trunc(A/H'), where H' is above 0.
@@ -153,7 +160,7 @@ impl Face {
 
     /// The velocities that count: the face's own, and those of the parallel neighbours that brought water in.
     fn who_counts(&self) -> impl Iterator<Item = i128> + '_ {
-        std::iter::once(self.u).chain(self.edges.iter().filter(|edge| edge.out < 0).map(|edge| edge.beyond))
+        std::iter::once(self.u).chain(self.edges.iter().filter(|edge| edge.flow_in() > 0).map(|edge| edge.beyond))
     }
 
     fn least(&self) -> i128 {
@@ -198,10 +205,9 @@ pub struct Carried {
 
 /// Of each inner face of a site that passes the first three checks, eastward ones first; none where H' is 0.
 pub fn carried_parts(site: &Site) -> Vec<Option<Carried>> {
-    let faces = Moving::of(site).inner_faces();
     let carried =
         |face: &Face| Carried { least: face.least(), part: face.carried_part(), greatest: face.greatest(), slope: face.slope() };
-    faces.iter().map(|face| if face.new_sum == 0 { None } else { Some(carried(face)) }).collect()
+    Moving::of(site).inner_faces().iter().map(|face| (face.new_sum > 0).then(|| carried(face))).collect()
 }
 
 /// One step of a site that passes the first three checks: the next state, or the lowest of 4, 5 and 7 that applies.

@@ -66,7 +66,7 @@ fn in_a_row(first: i32, second: i32) -> Wild {
 #[test]
 fn a_wall_that_brought_water_counts() {
     assert_eq!(first_of(&in_a_row(6_000_000, 6_000_000)), (3_428_571, [0, 6_000_000]));
-    // the other way it is the second face that brings water, and the wall has it brought to
+    // the other way the second face brings water, which goes to the wall, and the wall brings nothing
     assert_eq!(first_of(&in_a_row(-6_000_000, -6_000_000)), (-6_000_000, [-6_000_000, -6_000_000]));
     // nothing crosses the first face: it takes up what the second brings, and the wall brings nothing
     assert_eq!(first_of(&in_a_row(0, -6_000_000)), (-1_384_615, [-6_000_000, 0]));
