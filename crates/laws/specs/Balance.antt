@@ -36,25 +36,25 @@ share-and-inflow f =
     taken-together (oldSum f) (positive a) (positive b) (positive n) (positive s) (flowIn a) (flowIn b) (flowIn n) (flowIn s)
     ∙ ap (λ (x : ℤ). oldSum f -ℤ x) (ap₂ _+ℤ_ (ap₂ _+ℤ_ (out-less-in a) (out-less-in b)) (ap₂ _+ℤ_ (out-less-in n) (out-less-in s)))
 
+both-cells : (k l b o a bk bl ak al : ℤ)
+    → k +ℤ b -ℤ o +ℤ bk -ℤ ak +ℤ (l +ℤ o -ℤ a +ℤ bl -ℤ al) ≡ k +ℤ l -ℤ (o +ℤ a +ℤ negℤ (o +ℤ b) +ℤ (ak +ℤ al +ℤ negℤ (bk +ℤ bl)))
+both-cells k l b o a bk bl ak al = simp sums
+
 -- (13), where K and L take in and let out over their four faces: (7b) of each
 module _ (f : Face) (inK : f .newK ≡ f .oldK +ℤ f .behind -ℤ f .own +ℤ f .belowK -ℤ f .aboveK) (inL : f .newL ≡ f .oldL +ℤ f .own -ℤ f .ahead +ℤ f .belowL -ℤ f .aboveL) where
-  both-cells : (k l b o a bk bl ak al : ℤ)
-      → k +ℤ b -ℤ o +ℤ bk -ℤ ak +ℤ (l +ℤ o -ℤ a +ℤ bl -ℤ al) ≡ k +ℤ l -ℤ (o +ℤ a +ℤ negℤ (o +ℤ b) +ℤ (ak +ℤ al +ℤ negℤ (bk +ℤ bl)))
-  both-cells k l b o a bk bl ak al = simp sums
-
   balanced : newSum f ≡ oldSum f -ℤ flowOver f
   unfolding outAhead outBehind outAbove outBelow
   balanced = ap₂ _+ℤ_ inK inL ∙ both-cells (f .oldK) (f .oldL) (f .behind) (f .own) (f .ahead) (f .belowK) (f .belowL) (f .aboveK) (f .aboveL)
+
+-- what crosses a northward face comes last in a new height
+last-first : (h a b x y : ℤ) → h +ℤ a -ℤ b +ℤ x -ℤ y ≡ h +ℤ x -ℤ y +ℤ a -ℤ b
+last-first h a b x y = simp sums
 
 -- and so of the faces of a site
 module _ (c : Card) (g : Field) (w : Water) (i j : ℕ) where
   pub east-balance : newSum (eastFace c g w i j) ≡ oldSum (eastFace c g w i j) -ℤ flowOver (eastFace c g w i j)
   unfolding eastFace newHeight
   east-balance = balanced (eastFace c g w i j) refl refl
-
-  -- what crosses a northward face comes last in a new height
-  last-first : (h a b x y : ℤ) → h +ℤ a -ℤ b +ℤ x -ℤ y ≡ h +ℤ x -ℤ y +ℤ a -ℤ b
-  last-first h a b x y = simp sums
 
   pub north-balance : newSum (northFace c g w i j) ≡ oldSum (northFace c g w i j) -ℤ flowOver (northFace c g w i j)
   unfolding northFace newHeight

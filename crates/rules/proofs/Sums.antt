@@ -12,22 +12,24 @@ use Rattle.rules.specs.Step.{walled, eastTransfer, northTransfer, newHei
 use Rattle.rules.proofs.Signs.{sums}
 use Rattle.rules.proofs.Walls.{on-wall}
 
--- ---- sums of numbers that agree, of numbers that are each a sum, or a difference
+-- ---- sums of numbers that agree, and of numbers that are each a sum, or a difference
 
 pub sum-same : (n : ℕ) (f g : ℕ → ℤ) → ((k : ℕ) → k < n → f k ≡ g k) → sum n f ≡ sum n g
 unfolding sum
 sum-same zero f g h = refl
 sum-same (suc n) f g h = ap₂ _+ℤ_ (sum-same n f g (λ k l. h k (omega arith))) (h n (le-refl (suc n)))
 
-sum-plus : (n : ℕ) (f g : ℕ → ℤ) → sum n (λ k. f k +ℤ g k) ≡ sum n f +ℤ sum n g
+sum-each : (op : ℤ → ℤ → ℤ) → op (pos 0) (pos 0) ≡ pos 0 → ((a b x y : ℤ) → op a b +ℤ op x y ≡ op (a +ℤ x) (b +ℤ y))
+    → (n : ℕ) (f g : ℕ → ℤ) → sum n (λ k. op (f k) (g k)) ≡ op (sum n f) (sum n g)
 unfolding sum
-sum-plus zero f g = refl
-sum-plus (suc n) f g = rw (sum-plus n f g) (simp sums)
+sum-each op none two zero f g = sym none
+sum-each op none two (suc n) f g = rw (sum-each op none two n f g) (two (sum n f) (sum n g) (f n) (g n))
+
+sum-plus : (n : ℕ) (f g : ℕ → ℤ) → sum n (λ k. f k +ℤ g k) ≡ sum n f +ℤ sum n g
+sum-plus = sum-each _+ℤ_ refl (λ a b x y. simp sums)
 
 sum-minus : (n : ℕ) (f g : ℕ → ℤ) → sum n (λ k. f k -ℤ g k) ≡ sum n f -ℤ sum n g
-unfolding sum
-sum-minus zero f g = refl
-sum-minus (suc n) f g = rw (sum-minus n f g) (simp sums)
+sum-minus = sum-each _-ℤ_ refl (λ a b x y. simp sums)
 
 sum-none : (n : ℕ) → sum n (λ k. pos 0) ≡ pos 0
 unfolding sum
