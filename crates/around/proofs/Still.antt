@@ -3,12 +3,13 @@ use Prim.Native.Nat.{ℕ}
 use mathlib.Core.Path.{_≡_, _∙_, refl, sym}
 use mathlib.Core.Bool.{Bool, not}
 use mathlib.Core.List.{List}
-use lib.IntN.{ℤ, pos, zero-*ℤ, *ℤ-zero}
+use lib.IntN.{ℤ}
 use Rattle.rules.specs.declared.Card.{Card}
 use Rattle.rules.specs.declared.Face.{Face}
 use Rattle.rules.specs.Grid.{Field}
 use Rattle.rules.specs.Site.{readGround, readState}
-use Rattle.rules.specs.Step.{forward, outAhead, outBehind, outAbove, outBelow, positive, brought, carried, rise, slope, newVelocity}
+use Rattle.rules.specs.Step.{carried, rise, slope, dryBank, newVelocity}
+use Rattle.laws.specs.Still.{NothingCrosses, carries-nothing}
 use Rattle.layout.specs.Ways.{forth}
 use Rattle.still.specs.Rows.{CellsStill}
 use Rattle.still.proofs.Rows.{near-still, far-still}
@@ -19,39 +20,18 @@ use Rattle.around.specs.Still.{stillFace}
 use Rattle.around.proofs.Around.{cell-k, cell-l, gathered-is}
 use Rattle.around.proofs.Flows.{tide-height}
 
--- a face that has no velocity, around which nothing crosses
-record Still (f : Face) : Type 0 where
-  pub u : f .u ≡ pos 0
-  pub own : f .own ≡ pos 0
-  pub ahead : f .ahead ≡ pos 0
-  pub behind : f .behind ≡ pos 0
-  pub aboveK : f .aboveK ≡ pos 0
-  pub aboveL : f .aboveL ≡ pos 0
-  pub belowK : f .belowK ≡ pos 0
-  pub belowL : f .belowL ≡ pos 0
-
--- no flow brings nothing
-none-brought : (v : ℤ) → brought (pos 0) v ≡ pos 0
-unfolding brought forward positive
-none-brought v = zero-*ℤ v
-
-module _ {f : Face} (s : Still f) where
-  still-carried : carried f ≡ pos 0
-  unfolding carried outAhead outBehind outAbove outBelow
-  still-carried = rw (s .u, s .own, s .ahead, s .behind, s .aboveK, s .aboveL, s .belowK, s .belowL, *ℤ-zero, none-brought (f .uAhead), none-brought (f .uBehind), none-brought (f .uAbove), none-brought (f .uBelow))
-
-all-still : (g h : Field) (east : Bool) (i j : ℕ) → Still (stillFace g h east i j)
+all-still : (g h : Field) (east : Bool) (i j : ℕ) → NothingCrosses (stillFace g h east i j)
 unfolding stillFace
 all-still g h east i j = record { u = refl; own = refl; ahead = refl; behind = refl; aboveK = refl; aboveL = refl; belowK = refl; belowL = refl }
 
 -- new velocities of two faces that carry as much, between the same levels
 same-velocity : (dt d : ℕ) (f e : Face) → f .newK ≡ e .newK → f .newL ≡ e .newL → f .groundK ≡ e .groundK → f .groundL ≡ e .groundL → carried f ≡ carried e
     → newVelocity dt d f ≡ newVelocity dt d e
-unfolding newVelocity slope rise
+unfolding newVelocity slope rise dryBank
 same-velocity dt d f e hK hL gK gL a = rw (a, hK, hL, gK, gL)
 
 module _ {c : Card} {g s t : List ℤ} {east : Bool} {i j : ℕ} (a : AtFace c g s t east i j) (rowK : CellsStill c (readState c s) j) (rowL : CellsStill c (readState c s) (forth (not east) j)) where
-  gathered-still : Still (gatheredFace c (readGround c g) (readState c s) east i j (forth east i) (forth (not east) j))
+  gathered-still : NothingCrosses (gatheredFace c (readGround c g) (readState c s) east i j (forth east i) (forth (not east) j))
   unfolding gatheredFace
   gathered-still =
       let w = readState c s in
@@ -84,4 +64,4 @@ module _ {c : Card} {g s t : List ℤ} {east : Bool} {i j : ℕ} (a : AtFace c g
       (tide-height f (cell-l a refl refl))
       refl
       refl
-      (still-carried (all-still (readGround c g) height east i j) ∙ sym (still-carried gathered-still)))
+      (carries-nothing (all-still (readGround c g) height east i j) ∙ sym (carries-nothing gathered-still)))

@@ -13,13 +13,15 @@ use Prim.Native.Nat.{ℕ, _+_, _*_, _≤_, _<_, _^_}
 use mathlib.Core.Path.{_≡_, refl, sym, ap, _∙_, subst}
 use native.Mathlib.Nat.{le-trans, le-refl, mul-le-mul, div-le-self, lt-of-le-of-lt, add-le-add, le-of-eq, suc-ne-zero}
 use native.Mathlib.Omega.{arith}
-use lib.Dec.{T, ltb, ltb→lt}
+use borrow.Author.Tests.{eq-eqb}
+use lib.Dec.{T, eqb, ltb, eqb→eq, ltb→lt}
 use lib.Pow.{pow-pos}
 use lib.IntN.{ℤ, pos, negsuc, negℤ, natAbs, _+ℤ_, _-ℤ_, _*ℤ_, +ℤ-idl}
 use lib.Signed.{quotZ, nonNeg}
 use mir.Syntax.{Width, w32, w64}
 use mir.Val.{Fits, SFits, toZ, ofZ, hbits}
 use mir.Facts.{toZ-ofZ}
+use Rattle.laws.specs.Tests.{both-ways, to-T}
 use Rattle.laws.specs.Numbers.{abs-neg}
 use Rattle.laws.specs.Sizes.{Within, natAbs-add, natAbs-mul, natAbs-quot, mag-le}
 
@@ -132,6 +134,13 @@ no-size (negsuc n) e = absurd (suc-ne-zero n e)
 
 pub not-zero : {w : Width} (t : Node w) → (ofZ w (t .raw) ≡ 0 → ⊥) → natAbs (t .z) ≡ 0 → ⊥
 not-zero {w} t f e = f (ap (ofZ w) (t .is ∙ no-size (t .z) e))
+
+-- the test itself
+pub zero-test : {w : Width} {z : ℤ} → SFits w z → eqb (ofZ w z) 0 ≡ eqb (natAbs z) 0
+zero-test {w} {z} fit =
+    both-ways (eqb (ofZ w z) 0) (eqb (natAbs z) 0)
+    (λ t. to-T (eq-eqb (natAbs z) 0 (ap natAbs (sym (toZ-ofZ fit) ∙ ap (toZ w) (eqb→eq (ofZ w z) 0 t) ∙ zero-bits w))))
+    (λ t. to-T (eq-eqb (ofZ w z) 0 (ap (ofZ w) (no-size z (eqb→eq (natAbs z) 0 t)))))
 
 -- the bits of a number other than 0 are not 0
 bits-above : (z : ℤ) → natAbs z < 2 ^ 63 → 0 < natAbs z → 0 < ofZ w64 z

@@ -15,6 +15,7 @@ pub mod Copies
 pub mod Runs
 pub mod Follows
 pub mod Walls
+pub mod Still
 pub mod Rules
 pub mod Keeps
 pub mod Maxima

@@ -2,10 +2,10 @@
 use Prim.Native.Nat.{ℕ, zero, suc, _+_, _-_, zero-le}
 use mathlib.Core.Path.{_≡_, refl, ap}
 use mathlib.Core.Bool.{Bool, true, false, cond}
-use native.Mathlib.Nat.{le-refl, le-trans, le-antisymm}
+use native.Mathlib.Nat.{zero-div, le-refl, le-trans, le-antisymm}
 use native.Mathlib.Omega.{arith}
 use lib.IntN.{ℤ, pos, negsuc, negℤ, natAbs, _+ℤ_}
-use lib.Signed.{leZ}
+use lib.Signed.{leZ, quotZ}
 use lib.Dec.{T, ltb, leb→le, le→leb, lt→ltb}
 use lib.Arith.{le→nltb}
 use Rattle.laws.specs.Tests.{true-of, false-of}
@@ -16,6 +16,11 @@ pub abs-neg : (a : ℤ) → natAbs (negℤ a) ≡ natAbs a
 abs-neg (pos zero) = refl
 abs-neg (pos (suc n)) = refl
 abs-neg (negsuc n) = refl
+
+-- 0 divided is 0
+pub zero-quot : (b : ℤ) → quotZ (pos 0) b ≡ pos 0
+zero-quot (pos b) = rw zero-div
+zero-quot (negsuc b) = rw zero-div
 
 -- ---- the order
 

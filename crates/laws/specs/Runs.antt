@@ -5,9 +5,11 @@ use mathlib.Core.List.{List}
 use native.Mathlib.Nat.{not-suc-le-zero}
 use native.Mathlib.Omega.{arith}
 use lib.IntN.{ℤ, pos}
+use lib.Signed.{leZ}
 use Rattle.rules.specs.declared.Card.{Card}
 use Rattle.rules.specs.declared.Tally.{Tally}
 use Rattle.rules.specs.Site.{check}
+use Rattle.laws.specs.Tests.{either-way}
 use Rattle.rules.specs.Run.{SteppingOf, OutcomeOf, started, accepted, stoppedFor, runOn, runFrom, siteStep, runAll, runAfter, run}
 
 module _ {S : Type 0} (step : SteppingOf S) where
@@ -49,6 +51,26 @@ module _ {S : Type 0} (step : SteppingOf S) where
       go : (k : ℕ) → step .number s ≡ k → P (runOn step (suc n) t s)
       go zero e = subst P (sym (gone-on n t s e)) (on e)
       go (suc r) e = subst P (sym (stopped n t s (suc r) (suc-le-suc zero-le) e)) (off (suc r) (suc-le-suc zero-le) e)
+
+-- ---- a step that is accepted and leads from a state to that state: a run stands there, and does all its steps
+module _ {S : Type 0} (step : SteppingOf S) (s : S) (done : step .number s ≡ 0) (same : step .next s ≡ s) where
+  -- the tally after so many of them
+  abbrev tallied : ℕ → Tally
+  tallied k = record { steps = k; reason = 0; top = step .peak s }
+
+  abbrev standing : ℕ → OutcomeOf S
+  standing k = record { tally = tallied k; state = s }
+
+  stands-on : (n k m : ℕ) → k + n ≡ m → runOn step n (tallied k) s ≡ standing m
+  unfolding accepted
+  stands-on zero k m e = let z : k ≡ m = omega arith in finished step (tallied k) s ∙ ap standing z
+  stands-on (suc n) k m e =
+      gone-on step n (tallied k) s done
+      ∙ rw (same, either-way (leZ (step .peak s) (step .peak s)) (step .peak s)) (stands-on n (k + 1) m (omega arith))
+
+  pub stands : (n : ℕ) → runFrom step n s ≡ standing n
+  unfolding runFrom started
+  stands n = stands-on n 0 n (omega arith)
 
 -- what a state passes and an accepted step keeps
 abbrev pub Keeps : {S : Type 0} → SteppingOf S → (Passes : S → Type 0) → Type 0

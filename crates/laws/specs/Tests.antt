@@ -21,6 +21,10 @@ pub cond-cong : {A : Type 0} (b : Bool) (x x′ y : A) → (T b → x ≡ x′) 
 cond-cong true x x′ y h = h tt
 cond-cong false x x′ y h = refl
 
+pub either-way : {A : Type 0} (b : Bool) (x : A) → cond b x x ≡ x
+either-way true x = refl
+either-way false x = refl
+
 pub and-cross : {a b a′ b′ : Bool} → a′ ≡ b → b′ ≡ a → (a′ && b′) ≡ (a && b)
 and-cross {a} {b} p q = ap₂ _&&_ p q ∙ and-comm b a
 

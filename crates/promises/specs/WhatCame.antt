@@ -3,7 +3,7 @@
 -- It is so on every inner face of every site that passes the first three checks and keeps the step limit, whether or not the step is refused later.
 use Prim.Native.Nat.{ℕ, suc}
 use mathlib.Core.Path.{_≡_, refl, sym, _∙_}
-use mathlib.Core.Bool.{true, false}
+use mathlib.Core.Bool.{true, false, or-true}
 use mathlib.Core.List.{List}
 use native.Mathlib.Nat.{ne-of-gt}
 use lib.IntN.{ℤ, pos, negsuc, _+ℤ_, _-ℤ_, -ℤ-+ℤ-cancel}
@@ -14,7 +14,7 @@ use Rattle.rules.specs.declared.Card.{Card}
 use Rattle.rules.specs.declared.Face.{Face}
 use Rattle.rules.specs.Grid.{Field}
 use Rattle.rules.specs.Site.{Water, check, readGround, readState, isZero}
-use Rattle.rules.specs.Step.{walled, transfer, eastTransfer, northTransfer, forward, newHeight, after, before, eastFace, northFace, outAhead, outBehind, outAbove, outBelow, positive, oldSum, newSum, ownShare, allFlowIn, brought, carried, carriedPart, slope, newVelocity, newEast, newNorth, next, limitKept}
+use Rattle.rules.specs.Step.{walled, transfer, eastTransfer, northTransfer, forward, newHeight, after, before, eastFace, northFace, outAhead, outBehind, outAbove, outBelow, positive, oldSum, newSum, ownShare, allFlowIn, brought, carried, carriedPart, slope, dryBank, newVelocity, newEast, newNorth, next, limitKept}
 use Rattle.rules.specs.Starred.{oneRow, flat, passing, through}
 use Rattle.laws.specs.Walls.{on-inner}
 use Rattle.laws.specs.Balance.{flowOver, share-and-inflow, east-balance, north-balance}
@@ -68,26 +68,30 @@ carried-between c g s e limit =
       north = λ i j hi hj above. stays-between _ (n .north i j hi hj) (b .north i j hi hj) above;
     }
 
--- and it is the new velocity's: with the slope put back, the new velocity of each inner face is the carried part
-put-back : (dt d : ℕ) (f : Face) → T (ltZ (pos 0) (newSum f)) → newVelocity dt d f +ℤ slope dt d f ≡ carriedPart f
+-- and it is the new velocity's, given the velocity v that the face has in the next state: with the slope put back that is the carried part, where H' is above 0 and neither
+-- cell is a dry bank. On a bank there is none: the velocity is 0 (document 02, [2]).
+pub record SlopePutBack (dt d : ℕ) (v : ℤ) (f : Face) : Type 0 where
+  pub put-back : T (ltZ (pos 0) (newSum f)) → dryBank f ≡ false → v +ℤ slope dt d f ≡ carriedPart f
+  pub on-a-bank : dryBank f ≡ true → v ≡ pos 0
+
+of-velocity : (dt d : ℕ) (f : Face) → SlopePutBack dt d (newVelocity dt d f) f
 unfolding newVelocity
-put-back dt d f above = rw (above-is-not-0 (newSum f) above) (-ℤ-+ℤ-cancel (carriedPart f) (slope dt d f))
+of-velocity dt d f = record {
+  put-back = λ above no. rw (above-is-not-0 (newSum f) above, no) (-ℤ-+ℤ-cancel (carriedPart f) (slope dt d f));
+  on-a-bank = λ bank. rw (bank, or-true (isZero (newSum f)));
+}
   where
     above-is-not-0 : (z : ℤ) → T (ltZ (pos 0) z) → isZero z ≡ false
     above-is-not-0 (pos n) t = ne-eqb n 0 (ne-of-gt (ltb→lt 0 n t))
     above-is-not-0 (negsuc n) t = absurd t
-
--- given the velocity that the face has in the next state
-abbrev pub SlopePutBack : (dt d : ℕ) (v : ℤ) → Face → Type 0
-SlopePutBack dt d v f = T (ltZ (pos 0) (newSum f)) → v +ℤ slope dt d f ≡ carriedPart f
 
 pub slope-put-back : (c : Card) (g : Field) (w : Water) → EveryInner c
     (λ i j. SlopePutBack (c .dt) (c .dx) (next newVelocity c g w .east (suc i) j) (eastFace c g w i j))
     (λ i j. SlopePutBack (c .dt) (c .dy) (next newVelocity c g w .north i (suc j)) (northFace c g w i j))
 unfolding next newEast newNorth
 slope-put-back c g w = record {
-  east = λ i j hi hj above. rw (on-inner (c .columns) (λ k. newVelocity (c .dt) (c .dx) (eastFace c g w k j)) i hi) (put-back (c .dt) (c .dx) (eastFace c g w i j) above);
-  north = λ i j hi hj above. rw (on-inner (c .rows) (λ k. newVelocity (c .dt) (c .dy) (northFace c g w i k)) j hj) (put-back (c .dt) (c .dy) (northFace c g w i j) above);
+  east = λ i j hi hj. rw (on-inner (c .columns) (λ k. newVelocity (c .dt) (c .dx) (eastFace c g w k j)) i hi) (of-velocity (c .dt) (c .dx) (eastFace c g w i j));
+  north = λ i j hi hj. rw (on-inner (c .rows) (λ k. newVelocity (c .dt) (c .dy) (northFace c g w i k)) j hj) (of-velocity (c .dt) (c .dy) (northFace c g w i j));
 }
 
 -- ---- On numbers: the two inner faces of document 02's case of [9], in which water passes through three cells

@@ -2,11 +2,11 @@
 -- change places has the same. Document 01's first slip, a negative product divided with floor, is refused here. Demand 3 rests on this.
 use Prim.Native.Nat.{ℕ, zero, suc, _*_, _/_}
 use mathlib.Core.Path.{_≡_, refl, sym, ap}
-use mathlib.Core.Bool.{Bool, true, false, cond}
+use mathlib.Core.Bool.{Bool, true, false, cond, _||_, or-comm}
 use lib.IntN.{ℤ, pos, negsuc, negℤ, natAbs, _-ℤ_, _*ℤ_, negℤ-negℤ, negℤ-+ℤ, +ℤ-comm}
 use Rattle.rules.specs.declared.Face.{Face}
 use Rattle.rules.specs.Site.{isZero}
-use Rattle.rules.specs.Step.{Rule, transfer, outAhead, outBehind, outAbove, outBelow, positive, newSum, ownShare, brought, carried, carriedPart, rise, slope, newVelocity}
+use Rattle.rules.specs.Step.{Rule, transfer, outAhead, outBehind, outAbove, outBelow, positive, newSum, ownShare, brought, carried, carriedPart, rise, slope, bankK, bankL, dryBank, newVelocity}
 use Rattle.rules.proofs.Signs.{mul-neg, neg-quot, sums, turned-difference}
 
 -- a face turned end for end: K and L change places, ahead and behind too, and what is directed is negated
@@ -116,7 +116,7 @@ module _ (f : Face) where
       rw (above-by-sides, below-by-sides, share-by-sides)
       (rw (+ℤ-comm (brought (outBelow f) (f .uBelow)) (brought (outAbove f) (f .uAbove))))
 
-  -- ---- slope and new velocity
+  -- ---- slope, dry banks and new velocity
 
   rise-by-ends : rise (endForEnd f) ≡ negℤ (rise f)
   unfolding rise endForEnd
@@ -126,19 +126,23 @@ module _ (f : Face) where
   unfolding slope
   slope-by-ends dt d = rw (rise-by-ends, mul-neg (pos (9806650 * dt)) (rise f)) (neg-quot (pos (9806650 * dt) *ℤ rise f) (pos (1000 * d)))
 
+  bank-by-ends : dryBank (endForEnd f) ≡ dryBank f
+  unfolding dryBank endForEnd
+  bank-by-ends = or-comm (bankL f) (bankK f)
+
   -- a difference whose first part is negated, less the negated second
-  neg-difference : (dry : Bool) (q q′ s : ℤ) → q′ ≡ negℤ q → cond dry (pos 0) (q′ -ℤ negℤ s) ≡ negℤ (cond dry (pos 0) (q -ℤ s))
+  neg-difference : (none : Bool) (q q′ s : ℤ) → q′ ≡ negℤ q → cond none (pos 0) (q′ -ℤ negℤ s) ≡ negℤ (cond none (pos 0) (q -ℤ s))
   neg-difference true q q′ s e = refl
   neg-difference false q q′ s e = rw e (sym (negℤ-+ℤ q (negℤ s)))
 
   velocity-by-ends : (dt d : ℕ) → newVelocity dt d (endForEnd f) ≡ negℤ (newVelocity dt d f)
   unfolding newVelocity endForEnd
   velocity-by-ends dt d =
-      rw (carried-by-ends, slope-by-ends, +ℤ-comm (f .newL) (f .newK))
-      (neg-difference (isZero (newSum f)) (carriedPart f) _ (slope dt d f) (neg-quot (carried f) (newSum f)))
+      rw (carried-by-ends, slope-by-ends, bank-by-ends, +ℤ-comm (f .newL) (f .newK))
+      (neg-difference (isZero (newSum f) || dryBank f) (carriedPart f) _ (slope dt d f) (neg-quot (carried f) (newSum f)))
 
   velocity-by-sides : (dt d : ℕ) → newVelocity dt d (sideForSide f) ≡ newVelocity dt d f
-  unfolding newVelocity sideForSide slope rise
+  unfolding newVelocity sideForSide slope rise dryBank
   velocity-by-sides dt d = rw carried-by-sides
 
 -- what demand 3 asks of a rule for new velocities; document 01's has it

@@ -1,4 +1,4 @@
--- Document 01, "Numbers to check by": the starred cases, in a single table under a single claim, proved by computation; and cases of document 02's [9] and [8].
+-- Document 01, "Numbers to check by": the starred cases, in a single table under a single claim, proved by computation; and cases of document 02's [9], [8] and [2].
 use Prim.Native.Nat.{ℕ}
 use mathlib.Core.Path.{_≡_, refl}
 use mathlib.Core.List.{List, [], _∷_, _++_}
@@ -7,7 +7,7 @@ use lib.IntN.{ℤ, pos, negℤ}
 use Rattle.rules.specs.declared.Card.{Card}
 use Rattle.rules.specs.Grid.{tabulate, grid, all, allAt, greatest, sum, sumAt}
 use Rattle.rules.specs.Site.{readGround, readState, writeState, stateLength, sumOfHeights, sizesFit, sidesFit, timesFit, cardFits, lengthsFit, groundsFit, heightsFit, velocitiesFit, wallsStill, valuesFit, firstOf, checkAlso, checkWith, firstRefusal, ifDone}
-use Rattle.rules.specs.Step.{walled, transfer, eastTransfer, northTransfer, forward, backward, withinLimit, newHeight, after, before, eastFace, northFace, outAhead, outBehind, outAbove, outBelow, positive, ownShare, brought, carried, rise, slope, newVelocity, newEast, newNorth, next, limitKept, newHeightsFit, newVelocitiesFit, answer, number, stepNumberBy, nextStateBy, stepNumber, nextState}
+use Rattle.rules.specs.Step.{walled, transfer, eastTransfer, northTransfer, forward, backward, withinLimit, newHeight, after, before, eastFace, northFace, outAhead, outBehind, outAbove, outBelow, positive, ownShare, brought, carried, rise, slope, isBank, dryBank, newVelocity, newEast, newNorth, next, limitKept, newHeightsFit, newVelocitiesFit, answer, number, stepNumberBy, nextStateBy, stepNumber, nextState}
 use Rattle.rules.specs.Text.{digitsOf, decimal, heightText, depthText}
 use Rattle.rules.specs.Calls.{stepAnswer, stepNext}
 
@@ -68,8 +68,13 @@ pub record Starred : Type 0 where
   pub transfer-west : transfer 100 1000000 (pos 0) (pos 3) (negℤ (pos 5000000)) ≡ negℤ (pos 1)
   -- a pond over uneven ground lies still
   pub still-pond : Steps 3 (pos 0 ∷ pos 400000 ∷ pos 100000 ∷ []) (three (pos 1000000) (pos 600000) (pos 900000)) (three (pos 1000000) (pos 600000) (pos 900000))
-  -- a dry bank
-  pub dry-bank : Steps 2 (pos 0 ∷ pos 1500000 ∷ []) (two (pos 1000000) (pos 0) (pos 0)) (two (pos 1000000) (pos 0) (negℤ (pos 490332)))
+  -- a dry bank, document 01's case, with document 02's [2]: it no longer pulls
+  pub dry-bank : Steps 2 (pos 0 ∷ pos 1500000 ∷ []) (two (pos 1000000) (pos 0) (pos 0)) (two (pos 1000000) (pos 0) (pos 0))
+  -- [2], a bank just as high as the water, and a velocity left on its face: that is 0 now; a bank 1 µm lower is none, and the velocity stays
+  pub bank-level : Steps 2 (pos 0 ∷ pos 1000000 ∷ []) (two (pos 1000000) (pos 0) (negℤ (pos 3000000))) (two (pos 1000000) (pos 0) (pos 0))
+  pub bank-below : Steps 2 (pos 0 ∷ pos 999999 ∷ []) (two (pos 1000000) (pos 0) (negℤ (pos 3000000))) (two (pos 1000000) (pos 0) (negℤ (pos 3000000)))
+  -- [2], the new heights count: the west cell is dry once the step has emptied it, and a bank
+  pub bank-emptied : Steps 2 (pos 3000000 ∷ pos 0 ∷ []) (two (pos 2000000) (pos 1000000) (pos 10000000)) (two (pos 0) (pos 3000000) (pos 0))
   -- "dry", "<1 cm", "1 cm", "2 cm"
   pub text-0 : depthText (pos 0) ≡ 100 ∷ 114 ∷ 121 ∷ []
   pub text-9999 : depthText (pos 9999) ≡ 60 ∷ 49 ∷ 32 ∷ 99 ∷ 109 ∷ []
@@ -77,7 +82,7 @@ pub record Starred : Type 0 where
   pub text-15000 : depthText (pos 15000) ≡ 50 ∷ 32 ∷ 99 ∷ 109 ∷ []
 
 pub starred : Starred
-unfolding oneRow flat two passing three through square four tabulate grid all allAt greatest sum sumAt readGround readState writeState stateLength sumOfHeights sizesFit sidesFit timesFit cardFits lengthsFit groundsFit heightsFit velocitiesFit wallsStill valuesFit firstOf checkAlso checkWith firstRefusal ifDone walled transfer eastTransfer northTransfer forward backward withinLimit newHeight after before eastFace northFace outAhead outBehind outAbove outBelow positive ownShare brought carried rise slope newVelocity newEast newNorth next limitKept newHeightsFit newVelocitiesFit answer number stepNumberBy nextStateBy stepNumber nextState digitsOf decimal heightText depthText stepAnswer stepNext
+unfolding oneRow flat two passing three through square four tabulate grid all allAt greatest sum sumAt readGround readState writeState stateLength sumOfHeights sizesFit sidesFit timesFit cardFits lengthsFit groundsFit heightsFit velocitiesFit wallsStill valuesFit firstOf checkAlso checkWith firstRefusal ifDone walled transfer eastTransfer northTransfer forward backward withinLimit newHeight after before eastFace northFace outAhead outBehind outAbove outBelow positive ownShare brought carried rise slope isBank dryBank newVelocity newEast newNorth next limitKept newHeightsFit newVelocitiesFit answer number stepNumberBy nextStateBy stepNumber nextState digitsOf decimal heightText depthText stepAnswer stepNext
 starred = record {
   first-step = (refl, refl);
   second-step = (refl, refl);
@@ -91,6 +96,9 @@ starred = record {
   transfer-west = refl;
   still-pond = (refl, refl);
   dry-bank = (refl, refl);
+  bank-level = (refl, refl);
+  bank-below = (refl, refl);
+  bank-emptied = (refl, refl);
   text-0 = refl;
   text-9999 = refl;
   text-10000 = refl;

@@ -1,6 +1,6 @@
 -- Document 01, "One step": the decoupled staggered scheme of document 002 in whole numbers. The numbers in brackets are document 002's equations.
 use Prim.Native.Nat.{ℕ, zero, suc, _+_, _*_, _/_}
-use mathlib.Core.Bool.{Bool, true, false, cond, _&&_}
+use mathlib.Core.Bool.{Bool, true, false, cond, _&&_, _||_}
 use mathlib.Core.List.{List}
 use lib.IntN.{ℤ, pos, negsuc, negℤ, natAbs, _+ℤ_, _-ℤ_, _*ℤ_}
 use lib.Signed.{leZ, quotZ}
@@ -190,23 +190,46 @@ carried f =
 -- ---- Slope: the pressure and ground terms of (7d), with (7c) and (17), taken together; H' cancels.
 -- S = trunc(9,806,650 · dt · ((hL' + zL) − (hK' + zK)) / (1000 · d)); `quotZ` is the quotient towards zero
 
+-- the new surface, new height plus ground, in K and in L
+abbrev pub surfaceK : Face → ℤ
+surfaceK f = f .newK +ℤ f .groundK
+
+abbrev pub surfaceL : Face → ℤ
+surfaceL f = f .newL +ℤ f .groundL
+
 -- how much higher the new surface stands in L than in K
 unfoldable pub rise : Face → ℤ
-rise f = f .newL +ℤ f .groundL -ℤ (f .newK +ℤ f .groundK)
+rise f = surfaceL f -ℤ surfaceK f
 
 unfoldable pub slope : (dt d : ℕ) → Face → ℤ
 slope dt d f = quotZ (pos (9806650 * dt) *ℤ rise f) (pos (1000 * d))
 
--- ---- New velocity, (7d): 0 if H' = 0, otherwise trunc(A / H') − S
+-- ---- Dry banks (document 02, [2]): one of a face's cells is dry after the step and its ground is at or above the other's new surface
+
+-- a cell, by its new height and its ground, beside the other cell's new surface
+unfoldable pub isBank : (height ground other : ℤ) → Bool
+isBank h z other = isZero h && leZ other z
+
+-- K beside L, and L beside K
+abbrev pub bankK : Face → Bool
+bankK f = isBank (f .newK) (f .groundK) (surfaceL f)
+
+abbrev pub bankL : Face → Bool
+bankL f = isBank (f .newL) (f .groundL) (surfaceK f)
+
+unfoldable pub dryBank : Face → Bool
+dryBank f = bankK f || bankL f
+
+-- ---- New velocity, (7d): 0 if H' = 0 or one of the cells is a dry bank, otherwise trunc(A / H') − S
 
 -- the carried part, before the slope is taken off
 abbrev pub carriedPart : Face → ℤ
 carriedPart f = quotZ (carried f) (newSum f)
 
 unfoldable pub newVelocity : (dt d : ℕ) → Face → ℤ
-newVelocity dt d f = cond (isZero (newSum f)) (pos 0) (carriedPart f -ℤ slope dt d f)
+newVelocity dt d f = cond (isZero (newSum f) || dryBank f) (pos 0) (carriedPart f -ℤ slope dt d f)
 
--- ---- The next state, over the rule that gives an inner face its new velocity. Document 01's rule is `newVelocity`.
+-- ---- The next state, over the rule that gives an inner face its new velocity. Document 01's rule, with [2]'s banks, is `newVelocity`.
 
 abbrev pub Rule : Type 0
 Rule = (dt d : ℕ) → Face → ℤ
@@ -256,7 +279,7 @@ stepNumberBy rule c g s = number rule c (readGround c g) (readState c s)
 unfoldable pub nextStateBy : Rule → Card → (ground state : List ℤ) → List ℤ
 nextStateBy rule c g s = writeState c (next rule c (readGround c g) (readState c s))
 
--- document 01's step
+-- document 01's step, as document 02 reads it
 unfoldable pub stepNumber : Card → (ground state : List ℤ) → ℕ
 stepNumber = stepNumberBy newVelocity
 

@@ -9,13 +9,10 @@ use Rattle.rules.specs.declared.Card.{Card}
 use Rattle.rules.specs.Site.{Water}
 use Rattle.rules.specs.Step.{walled, transfer, eastTransfer, northTransfer}
 use Rattle.laws.specs.Lines.{walled-is}
+use Rattle.laws.specs.Still.{east-still, north-still}
 use Rattle.layout.specs.Ways.{wide, high, side, isWall, back, forth, speeds, transfers}
 use Rattle.layout.specs.Places.{FaceIn}
 use Rattle.layout.proofs.Pointing.{back-forth, beside}
-
-either-way : (b : Bool) (x : ℤ) → cond b x x ≡ x
-either-way true x = refl
-either-way false x = refl
 
 module _ (c : Card) (w : Water) where
   line : (east : Bool) (i j : ℕ) → FaceIn c east i j
@@ -30,11 +27,9 @@ module _ (c : Card) (w : Water) where
 
   -- nothing crosses a face that has no velocity, be it a wall or not
   pub over-still : (east : Bool) (i j : ℕ) → speeds w east i j ≡ pos 0 → transfers c w east i j ≡ pos 0
-  unfolding transfers eastTransfer northTransfer speeds walled transfer
-  over-still true zero j e = refl
-  over-still true (suc i) j e = rw e (either-way (ltb (suc i) (c .columns)) (pos 0))
-  over-still false i zero e = refl
-  over-still false i (suc j) e = rw e (either-way (ltb (suc j) (c .rows)) (pos 0))
+  unfolding transfers speeds
+  over-still true i j e = east-still c w i j e
+  over-still false i j e = north-still c w i j e
 
   pub over-inner : (east : Bool) (i j : ℕ) → FaceIn c east i j → isWall c east i j ≡ false
       → transfers c w east i j ≡ transfer (c .dt) (side c east) (w .height (back east i) (back (not east) j)) (w .height i j) (speeds w east i j)

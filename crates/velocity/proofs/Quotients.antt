@@ -1,20 +1,16 @@
 -- A quotient of two locals: what it requires, what was returned for it, and that of 0.
 use Prim.Native.Nat.{_<_, _^_}
 use mathlib.Core.Path.{_≡_, sym, _∙_}
-use native.Mathlib.Nat.{zero-div}
 use native.Mathlib.Omega.{arith}
 use lib.Dec.{ltb→lt}
-use lib.IntN.{ℤ, pos, negsuc, natAbs}
+use lib.IntN.{ℤ, pos, natAbs}
 use lib.Signed.{quotZ}
 use mir.Syntax.{w64}
 use mir.Val.{ofZ}
+use Rattle.laws.specs.Numbers.{zero-quot}
 use Rattle.laws.specs.Exact.{Node, read, is-zero, within, passed, result, quot}
 use Rattle.laws.specs.Sizes.{Within}
 use Rattle.velocity.specs.Fits.{InQuotient}
-
-zero-quot : (b : ℤ) → quotZ (pos 0) b ≡ pos 0
-zero-quot (pos b) = rw zero-div
-zero-quot (negsuc b) = rw zero-div
 
 pub of-zero : (a : Node w64) (b : ℤ) → ofZ w64 (a .raw) ≡ 0 → pos 0 ≡ quotZ (a .z) b
 of-zero a b e = rw (is-zero a e) (sym (zero-quot b))

@@ -1,4 +1,6 @@
-// The new velocity of one face: what each function returns is a definition of `rules`. Two divisions, and none where what it would divide is 0.
+// The new velocity of one face: what each function returns is a definition of `rules`. Two divisions, none where what it would divide is 0, and neither on a dry bank.
+mod banks;
+
 use rules::Face;
 ghost use mathlib.Core.Path.{_≡_};
 ghost use lib.Signed.{quotZ};
@@ -44,10 +46,12 @@ pub fn new_velocity(f: Face, dt: u32, d: u32) -> i64
     let l = f.newL;
     let h = k + l;
     if h == 0 {
-        0
-    } else {
-        quotient(momentum::carried(f), h as i64) - slope(f, dt, d)
+        return 0;
     }
+    if banks::dry_bank(f) {
+        return 0;
+    }
+    quotient(momentum::carried(f), h as i64) - slope(f, dt, d)
 }
 
 // Whether a new velocity lies in its range.
