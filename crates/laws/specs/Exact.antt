@@ -132,6 +132,9 @@ pub no-size : (z : ℤ) → natAbs z ≡ 0 → z ≡ pos 0
 no-size (pos n) e = ap pos e
 no-size (negsuc n) e = absurd (suc-ne-zero n e)
 
+pub zero-is : (z : ℤ) → T (eqb (natAbs z) 0) → z ≡ pos 0
+zero-is z t = no-size z (eqb→eq (natAbs z) 0 t)
+
 pub not-zero : {w : Width} (t : Node w) → (ofZ w (t .raw) ≡ 0 → ⊥) → natAbs (t .z) ≡ 0 → ⊥
 not-zero {w} t f e = f (ap (ofZ w) (t .is ∙ no-size (t .z) e))
 
@@ -140,7 +143,7 @@ pub zero-test : {w : Width} {z : ℤ} → SFits w z → eqb (ofZ w z) 0 ≡ eqb 
 zero-test {w} {z} fit =
     both-ways (eqb (ofZ w z) 0) (eqb (natAbs z) 0)
     (λ t. to-T (eq-eqb (natAbs z) 0 (ap natAbs (sym (toZ-ofZ fit) ∙ ap (toZ w) (eqb→eq (ofZ w z) 0 t) ∙ zero-bits w))))
-    (λ t. to-T (eq-eqb (ofZ w z) 0 (ap (ofZ w) (no-size z (eqb→eq (natAbs z) 0 t)))))
+    (λ t. to-T (eq-eqb (ofZ w z) 0 (ap (ofZ w) (zero-is z t))))
 
 -- the bits of a number other than 0 are not 0
 bits-above : (z : ℤ) → natAbs z < 2 ^ 63 → 0 < natAbs z → 0 < ofZ w64 z

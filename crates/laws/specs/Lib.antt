@@ -16,6 +16,7 @@ pub mod Runs
 pub mod Follows
 pub mod Walls
 pub mod Still
+pub mod Velocity
 pub mod Rules
 pub mod Keeps
 pub mod Maxima

@@ -1,5 +1,5 @@
--- Where velocities are 0: nothing crosses such a face; a cell whose four faces are such keeps the step limit and its height; and a face that is such a one,
--- around which nothing crosses, carries nothing.
+-- Where velocities are 0: nothing crosses such a face; a cell whose four faces are such keeps the step limit and its height; and a face that is such a one, around which
+-- nothing crosses, as between two such cells, carries nothing.
 use Prim.Native.Nat.{ℕ, zero, suc, _*_, zero-le}
 use mathlib.Core.Path.{_≡_, refl}
 use mathlib.Core.Bool.{true, cond}
@@ -9,8 +9,9 @@ use lib.Dec.{ltb}
 use lib.IntN.{ℤ, pos, +ℤ-idr, zero-*ℤ, *ℤ-zero}
 use Rattle.rules.specs.declared.Card.{Card}
 use Rattle.rules.specs.declared.Face.{Face}
+use Rattle.rules.specs.Grid.{Field}
 use Rattle.rules.specs.Site.{Water}
-use Rattle.rules.specs.Step.{walled, transfer, eastTransfer, northTransfer, forward, backward, withinLimit, newHeight, outAhead, outBehind, outAbove, outBelow, positive, brought, carried}
+use Rattle.rules.specs.Step.{walled, transfer, eastTransfer, northTransfer, forward, backward, withinLimit, newHeight, eastFace, northFace, outAhead, outBehind, outAbove, outBelow, positive, brought, carried}
 use Rattle.laws.specs.Tests.{either-way}
 
 module _ (c : Card) (w : Water) where
@@ -63,3 +64,31 @@ pub carries-nothing : {f : Face} → NothingCrosses f → carried f ≡ pos 0
 unfolding carried outAhead outBehind outAbove outBelow
 carries-nothing {f} s =
     rw (s .u, s .own, s .ahead, s .behind, s .aboveK, s .aboveL, s .belowK, s .belowL, *ℤ-zero, none-brought (f .uAhead), none-brought (f .uBehind), none-brought (f .uAbove), none-brought (f .uBelow))
+
+-- the face between two such cells
+module _ (c : Card) (g : Field) {w : Water} {i j : ℕ} (k : StillCell w i j) where
+  pub east-none : StillCell w (suc i) j → NothingCrosses (eastFace c g w i j)
+  unfolding eastFace
+  east-none l = record {
+    u = k .east;
+    own = east-still c w (suc i) j (k .east);
+    ahead = east-still c w (suc (suc i)) j (l .east);
+    behind = east-still c w i j (k .west);
+    aboveK = north-still c w i (suc j) (k .north);
+    aboveL = north-still c w (suc i) (suc j) (l .north);
+    belowK = north-still c w i j (k .south);
+    belowL = north-still c w (suc i) j (l .south);
+  }
+
+  pub north-none : StillCell w i (suc j) → NothingCrosses (northFace c g w i j)
+  unfolding northFace
+  north-none l = record {
+    u = k .north;
+    own = north-still c w i (suc j) (k .north);
+    ahead = north-still c w i (suc (suc j)) (l .north);
+    behind = north-still c w i j (k .south);
+    aboveK = east-still c w (suc i) j (k .east);
+    aboveL = east-still c w (suc i) (suc j) (l .east);
+    belowK = east-still c w i j (k .west);
+    belowL = east-still c w i (suc j) (l .west);
+  }

@@ -10,6 +10,10 @@ pub mod Brought
 pub mod OneSide
 pub mod WallsAre0
 pub mod WhatCame
+pub mod AtRest
+pub mod WhyStill
+pub mod StillWater
+pub mod Pond
 pub mod Endings
 pub mod Slices
 pub mod SiteSlices

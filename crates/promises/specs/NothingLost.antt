@@ -1,5 +1,6 @@
 -- Document 02, [9]: a face counts in a cell's step limit only if its velocity points out of that cell, and nothing is lost by it. Every step that document 01's
--- own limit accepted is accepted, with the same next state; so is every run of such steps. No answer but 4 changed.
+-- own limit accepted is accepted, with the same next state; so is every run of such steps. No answer but 4 changed. (What is said of the numbers holds by any rule for the
+-- new velocities, document 01's without [2]'s banks too; the next state asks for no limit.)
 use Prim.Native.Nat.{ℕ, suc, _+_, _*_}
 use mathlib.Core.Path.{_≡_, refl, sym, _∙_}
 use mathlib.Core.Bool.{Bool, true, false}
@@ -12,7 +13,7 @@ use lib.Dec.{T, leb, leb→le, le→leb}
 use Rattle.rules.specs.declared.Card.{Card}
 use Rattle.rules.specs.Grid.{all, allAt}
 use Rattle.rules.specs.Site.{Water, check, checkWith, firstRefusal, readGround, readState}
-use Rattle.rules.specs.Step.{withinLimit, newVelocity, limitKept, newHeightsFit, newVelocitiesFit, answer, number, stepNumberBy, stepNumber, nextState}
+use Rattle.rules.specs.Step.{Rule, withinLimit, newVelocity, limitKept, newHeightsFit, newVelocitiesFit, answer, number, stepNumberBy, stepNumber, nextState}
 use Rattle.rules.specs.Run.{Stepping, peak, runFrom, siteStep}
 use Rattle.rules.specs.Calls.{stepAnswer, stepNext, runOutcome}
 use Rattle.rules.specs.Starred.{oneRow, flat, two, passing, through}
@@ -37,9 +38,12 @@ unfoldable pub oldLimitKept : Card → Water → Bool
 oldLimitKept c w = allAt (c .columns) (c .rows) (withinOldLimit c w)
 
 -- the step's number under it, with document 01's look for 6, and the step; the next state never asks for either
+unfoldable pub oldNumberBy : Rule → Card → (ground state : List ℤ) → ℕ
+oldNumberBy rule c g s =
+    answerWith6 (oldLimitKept c (readState c s)) (newHeightsFit c (readState c s)) (sharesFit c (readGround c g) (readState c s)) (newVelocitiesFit rule c (readGround c g) (readState c s))
+
 unfoldable pub oldNumber : Card → (ground state : List ℤ) → ℕ
-oldNumber c g s =
-    answerWith6 (oldLimitKept c (readState c s)) (newHeightsFit c (readState c s)) (sharesFit c (readGround c g) (readState c s)) (newVelocitiesFit newVelocity c (readGround c g) (readState c s))
+oldNumber = oldNumberBy newVelocity
 
 abbrev pub oldStep : Card → (ground : List ℤ) → Stepping
 oldStep c g = record { number = oldNumber c g; next = nextState c g; peak = peak c }
@@ -76,9 +80,13 @@ answer-same false new h s v f k n = absurd (n refl)
 answer-same true true h s v f k n = sym (passed-over true h s v k)
 answer-same true false h s v f k n = absurd (f tt)
 
+pub number-stays-by : (rule : Rule) (c : Card) (g s : List ℤ) → check c g s ≡ 0 → (oldNumberBy rule c g s ≡ 4 → ⊥) → stepNumberBy rule c g s ≡ oldNumberBy rule c g s
+unfolding oldNumberBy stepNumberBy number
+number-stays-by rule c g s e = answer-same (oldLimitKept c (readState c s)) (limitKept c (readState c s)) _ _ _ (site-keeps c (readState c s)) (shares-fit c g s e)
+
 pub number-stays : (c : Card) (g s : List ℤ) → check c g s ≡ 0 → (oldNumber c g s ≡ 4 → ⊥) → stepNumber c g s ≡ oldNumber c g s
-unfolding oldNumber stepNumber stepNumberBy number
-number-stays c g s e = answer-same (oldLimitKept c (readState c s)) (limitKept c (readState c s)) _ _ _ (site-keeps c (readState c s)) (shares-fit c g s e)
+unfolding oldNumber stepNumber
+number-stays = number-stays-by newVelocity
 
 -- a step that was done was not refused by 4
 not-four : {k : ℕ} → k ≡ 0 → k ≡ 4 → ⊥
@@ -125,5 +133,5 @@ unfolding oneRow flat two all allAt readState withinOldLimit oldLimitKept
 was-accepted = refl
 
 pub was-refused : oldNumber (oneRow 3) (flat 3) through ≡ 4
-unfolding oneRow flat passing through all allAt readState withinOldLimit oldLimitKept oldNumber answerWith6
+unfolding oneRow flat passing through all allAt readState withinOldLimit oldLimitKept oldNumberBy oldNumber answerWith6
 was-refused = refl

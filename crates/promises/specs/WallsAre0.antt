@@ -4,8 +4,8 @@ use mathlib.Core.Path.{_≡_, refl, sym, ap₂}
 use mathlib.Core.Bool.{_&&_}
 use mathlib.Core.List.{List}
 use native.Mathlib.Nat.{le-of-eq}
-use lib.IntN.{ℤ, pos, natAbs, _+ℤ_}
-use lib.Dec.{T, eqb→eq}
+use lib.IntN.{ℤ, pos, _+ℤ_}
+use lib.Dec.{T}
 use Rattle.rules.specs.declared.Card.{Card}
 use Rattle.rules.specs.Grid.{Field, all}
 use Rattle.rules.specs.Site.{Water, check, readGround, readState, isZero, groundsFit, heightsFit, velocitiesFit, wallsStill, valuesFit}
@@ -13,7 +13,7 @@ use Rattle.rules.specs.Step.{walled, eastTransfer, northTransfer, eastFace, nor
 use Rattle.laws.specs.Tests.{to-T, and-left, and-right, four-of}
 use Rattle.laws.specs.Grids.{all-at}
 use Rattle.laws.specs.Walls.{wall}
-use Rattle.laws.specs.Exact.{no-size}
+use Rattle.laws.specs.Exact.{zero-is}
 use Rattle.laws.specs.Facts.{check-sound}
 
 -- of a site that passes the first three checks: behind the first inner face of a row, ahead of its last; and so of a column
@@ -38,9 +38,6 @@ walls-are-0 c g s e =
       south = λ i h. zero-is (w .north i 0) (and-left (isZero (w .north i 0)) (isZero (w .north i (c .rows))) (in-column i h));
       north = λ i j h last. rw last (zero-is (w .north i (c .rows)) (and-right (isZero (w .north i 0)) (isZero (w .north i (c .rows))) (in-column i h)));
     }
-  where
-    zero-is : (z : ℤ) → T (isZero z) → z ≡ pos 0
-    zero-is z t = no-size z (eqb→eq (natAbs z) 0 t)
 
 -- of any site: south of the first row and north of the last, west of the first column and east of the last
 pub record NoFlowBeyond (c : Card) (g : Field) (w : Water) : Type 0 where

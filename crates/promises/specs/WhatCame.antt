@@ -3,7 +3,7 @@
 -- It is so on every inner face of every site that passes the first three checks and keeps the step limit, whether or not the step is refused later.
 use Prim.Native.Nat.{ℕ, suc}
 use mathlib.Core.Path.{_≡_, refl, sym, _∙_}
-use mathlib.Core.Bool.{true, false, or-true}
+use mathlib.Core.Bool.{true, false}
 use mathlib.Core.List.{List}
 use native.Mathlib.Nat.{ne-of-gt}
 use lib.IntN.{ℤ, pos, negsuc, _+ℤ_, _-ℤ_, -ℤ-+ℤ-cancel}
@@ -17,6 +17,7 @@ use Rattle.rules.specs.Site.{Water, check, readGround, readState, isZero}
 use Rattle.rules.specs.Step.{walled, transfer, eastTransfer, northTransfer, forward, newHeight, after, before, eastFace, northFace, outAhead, outBehind, outAbove, outBelow, positive, oldSum, newSum, ownShare, allFlowIn, brought, carried, carriedPart, slope, dryBank, newVelocity, newEast, newNorth, next, limitKept}
 use Rattle.rules.specs.Starred.{oneRow, flat, passing, through}
 use Rattle.laws.specs.Walls.{on-inner}
+use Rattle.laws.specs.Velocity.{on-a-bank, elsewhere}
 use Rattle.laws.specs.Balance.{flowOver, share-and-inflow, east-balance, north-balance}
 use Rattle.laws.specs.Weighed.{at-least, at-most}
 use Rattle.promises.specs.InnerFaces.{EveryInner, EveryFace}
@@ -75,10 +76,9 @@ pub record SlopePutBack (dt d : ℕ) (v : ℤ) (f : Face) : Type 0 where
   pub on-a-bank : dryBank f ≡ true → v ≡ pos 0
 
 of-velocity : (dt d : ℕ) (f : Face) → SlopePutBack dt d (newVelocity dt d f) f
-unfolding newVelocity
 of-velocity dt d f = record {
-  put-back = λ above no. rw (above-is-not-0 (newSum f) above, no) (-ℤ-+ℤ-cancel (carriedPart f) (slope dt d f));
-  on-a-bank = λ bank. rw (bank, or-true (isZero (newSum f)));
+  put-back = λ above no. rw (elsewhere dt d f (above-is-not-0 (newSum f) above) no) (-ℤ-+ℤ-cancel (carriedPart f) (slope dt d f));
+  on-a-bank = on-a-bank dt d f;
 }
   where
     above-is-not-0 : (z : ℤ) → T (ltZ (pos 0) z) → isZero z ≡ false

@@ -1,12 +1,12 @@
 -- `new_velocity`: H' is tested before it divides, and then the banks; the bounds on A and on the slope keep the difference from wrapping.
 use mathlib.Core.Path.{_≡_, _∙_, sym, ap}
-use mathlib.Core.Bool.{true, false}
+use mathlib.Core.Bool.{false}
 use native.Mathlib.Omega.{arith}
 use borrow.Author.Tests.{eq-eqb, ne-eqb}
 use lib.IntN.{natAbs, _+ℤ_}
 use mir.Syntax.{w32, w64}
 use Rattle.rules.specs.Site.{isZero}
-use Rattle.rules.specs.Step.{dryBank, newVelocity}
+use Rattle.laws.specs.Velocity.{without-water, on-a-bank, elsewhere}
 use Rattle.laws.specs.Exact.{Node, fits, value, is-zero, not-zero, int, result, add, sub, cast}
 use Rattle.face.proofs.Bounds.{height-within}
 use Rattle.momentum.proofs.Bounds.{carried-within}
@@ -23,11 +23,7 @@ abbrev h : tie.After-struct-told2 → Node w32
 h c = let r = start c .pre .face in add (int (height-within (r .newK)) tt) (int (height-within (r .newL)) tt) tt
 
 returns : tie.Need-returns
-unfolding newVelocity
-returns c =
-    let f = start (c .before) .args .f in
-    let e : isZero (f .newK +ℤ f .newL) ≡ true = eq-eqb _ 0 (ap natAbs (is-zero (h (c .before)) (c .if1 .taken))) in
-    rw e
+returns c = sym (without-water _ _ _ (eq-eqb _ 0 (ap natAbs (is-zero (h (c .before)) (c .if1 .taken)))))
 
 add-h : tie.Need-add-h
 add-h c = fits (h c)
@@ -46,11 +42,7 @@ dry-bank-requires : tie.Need-dry-bank-requires
 dry-bank-requires c κs = start (c .before) .pre .face
 
 returns-2 : tie.Need-returns-2
-unfolding newVelocity
-returns-2 c =
-    let b = c .before in
-    let e : dryBank (start (summed b) .args .f) ≡ true = sym (b .dry-bank .ensures) ∙ c .if2 .taken in
-    rw (has-water b, e)
+returns-2 c = let b = c .before in sym (on-a-bank _ _ _ (sym (b .dry-bank .ensures) ∙ c .if2 .taken))
 
 -- the other operations, in the code's order
 abbrev tested : tie.After-carried → tie.After-dry-bank
@@ -90,11 +82,9 @@ sub-result : tie.Need-sub-result
 sub-result c = fits (new c)
 
 returns-3 : tie.Need-returns-3
-unfolding newVelocity
 returns-3 c =
     let b = tested (c .before .before) in
-    let e : dryBank (start (summed b) .args .f) ≡ false = sym (b .dry-bank .ensures) ∙ c .before .before .before .if2 .left in
-    rw (has-water b, e) (value (new c))
+    value (new c) ∙ sym (elsewhere _ _ _ (has-water b) (sym (b .dry-bank .ensures) ∙ c .before .before .before .if2 .left))
 
 pub new-velocity-spec : {M : Type 1} → statement M
 new-velocity-spec =

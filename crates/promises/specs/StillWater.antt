@@ -1,0 +1,58 @@
+-- Document 02, [2]: still water stays. A site that passes the first three checks and whose water is still (AtRest.antt): its step is accepted, and its next state is the state;
+-- its run does all the steps wanted, with reason 0, the greatest height as top, and the state unchanged.
+use Prim.Native.Nat.{ℕ, _%_, _/_}
+use mathlib.Core.Path.{_≡_, refl, ap, _∙_}
+use mathlib.Core.Bool.{true, false}
+use mathlib.Core.List.{List, [], _∷_, _++_}
+use lib.IntN.{ℤ, pos, negℤ}
+use lib.ListN.{length}
+use Rattle.rules.specs.declared.Card.{Card}
+use Rattle.rules.specs.Site.{check, firstRefusal}
+use Rattle.rules.specs.Step.{newVelocity, stepNumber, nextState}
+use Rattle.rules.specs.Run.{Outcome, peak, siteStep, run}
+use Rattle.rules.specs.Calls.{stepAnswer, stepNext, runOutcome, runTally, runState}
+use Rattle.laws.specs.Runs.{begun, stands}
+use Rattle.promises.specs.AtRest.{stillWater}
+use Rattle.promises.specs.WhyStill.{rested, number-by, next-by}
+use Rattle.promises.specs.TheCall.{call-steps, call-leaves, call-runs}
+
+-- ---- What is promised: of the step and the run, and of the public calls, each lent a list as long as the state
+
+pub record StaysStill (c : Card) (g s : List ℤ) : Type 0 where
+  pub number : stepNumber c g s ≡ 0
+  pub next : nextState c g s ≡ s
+  pub runs : run c g s ≡ record { tally = record { steps = c .steps; reason = 0; top = peak c s }; state = s }
+
+pub record CallStaysStill (c : Card) (g s next : List ℤ) : Type 0 where
+  pub number : stepAnswer c g s next ≡ 0
+  pub state : stepNext c g s next ≡ s
+
+pub record RunCallStaysStill (c : Card) (g s scratch : List ℤ) : Type 0 where
+  pub tally : runTally c g s scratch ≡ record { steps = c .steps; reason = 0; top = peak c s }
+  pub state : runState c g s scratch ≡ s
+
+-- ---- The theorems
+
+module _ (c : Card) (g s : List ℤ) (passes : check c g s ≡ 0) (still : stillWater c g s ≡ true) where
+  accepted : stepNumber c g s ≡ 0
+  unfolding stepNumber
+  accepted = number-by newVelocity rested c g s passes still
+
+  unchanged : nextState c g s ≡ s
+  unfolding nextState
+  unchanged = next-by newVelocity rested c g s passes still
+
+  pub still-water : StaysStill c g s
+  still-water = record { number = accepted; next = unchanged; runs = begun c g s passes ∙ stands (siteStep c g) s accepted unchanged (c .steps) }
+
+  pub still-of-the-step : (next : List ℤ) → length next ≡ length s → CallStaysStill c g s next
+  unfolding firstRefusal
+  still-of-the-step next l =
+      let a : stepAnswer c g s next ≡ 0 = call-steps c g s next l ∙ rw (passes, accepted) in
+      record { number = a; state = call-leaves c g s next a ∙ unchanged }
+
+  pub still-of-the-run : (scratch : List ℤ) → length scratch ≡ length s → RunCallStaysStill c g s scratch
+  unfolding runTally runState
+  still-of-the-run scratch l =
+      let e = call-runs c g s scratch l ∙ still-water .runs in
+      record { tally = ap (λ (o : Outcome). o .tally) e; state = ap (λ (o : Outcome). o .state) e }
