@@ -20,7 +20,7 @@ use Rattle.around.specs.Still.{stillFace}
 use Rattle.around.proofs.Around.{cell-k, cell-l, gathered-is}
 use Rattle.around.proofs.Flows.{tide-height}
 
-all-still : (g h : Field) (east : Bool) (i j : ℕ) → NothingCrosses (stillFace g h east i j)
+pub all-still : (g h : Field) (east : Bool) (i j : ℕ) → NothingCrosses (stillFace g h east i j)
 unfolding stillFace
 all-still g h east i j = record { u = refl; own = refl; ahead = refl; behind = refl; aboveK = refl; aboveL = refl; belowK = refl; belowL = refl }
 

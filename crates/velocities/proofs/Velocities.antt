@@ -10,8 +10,9 @@ use Rattle.rules.specs.declared.Face.{Face}
 use Rattle.rules.specs.Site.{readGround, readState}
 use Rattle.rules.specs.Step.{newVelocity, newEast, newNorth}
 use Rattle.laws.specs.Lines.{walled-is}
+use Rattle.laws.specs.Still.{NothingCrosses, carries-nothing}
 use Rattle.momentum.specs.Fits.{FaceFits}
-use Rattle.velocity.specs.Fits.{InVelocity}
+use Rattle.velocity.specs.Fits.{InVelocity, InStillVelocity}
 use Rattle.layout.specs.Ways.{wide, high, side, isWall, back, forth}
 use Rattle.layout.specs.Places.{FaceIn}
 use Rattle.layout.proofs.Pointing.{beside, back-forth}
@@ -34,6 +35,10 @@ new-is c g s false {i} {j} p = let h : j ≤ c .rows = omega arith in walled-is 
 -- what a new velocity requires, of a face that was gathered and the side that was read
 pub in-velocity : {c : Card} {g s t : List ℤ} → Flowing c g s t → (east : Bool) {f e : Face} {d : ℕ} → FaceFits e → f ≡ e → d ≡ side c east → InVelocity f (c .dt) d
 in-velocity flowing east fits is read = let sound = sound-of flowing in record { face = subst FaceFits (sym is) fits; time = time sound; side = rw read (side-fits sound east) }
+
+-- and of one around which nothing crosses
+pub in-still : {c : Card} {g s t : List ℤ} → Flowing c g s t → (east : Bool) {f e : Face} {d : ℕ} → FaceFits e → NothingCrosses e → f ≡ e → d ≡ side c east → InStillVelocity f (c .dt) d
+in-still flowing east fits none is read = record { velocity = in-velocity flowing east fits is read; nothing = rw is (carries-nothing none) }
 
 -- an inner face, by the place of its cell K: the new velocity is the rule's, and between two still rows it is that of the still face
 module _ {c : Card} {g s t : List ℤ} (flowing : Flowing c g s t) (east : Bool) {i j k l : ℕ} (face : FaceIn c east i j) (inner : isWall c east i j ≡ false)

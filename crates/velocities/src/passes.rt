@@ -33,7 +33,7 @@ fn velocity(
     let k = ways::back(east, i);
     let l = ways::back(!east, j);
     if still {
-        return velocity::new_velocity(
+        return velocity::still_velocity(
             levels::still_face(card, east, ground, tide, k, l),
             card.dt,
             ways::side(card, east),

@@ -1,14 +1,17 @@
--- How large a slope is.
+-- How large H' and a slope are.
 use Prim.Native.Nat.{ℕ, _*_}
 use native.Mathlib.Nat.{mul-le-mul-left}
 use native.Mathlib.Omega.{arith}
 use lib.Dec.{lit≤}
 use Rattle.rules.specs.declared.Face.{Face}
-use Rattle.rules.specs.Step.{rise, slope}
+use Rattle.rules.specs.Step.{newSum, rise, slope}
 use Rattle.laws.specs.Sizes.{Within, within-nat, within-add, within-sub, within-mul, within-quot}
 use Rattle.face.specs.Ranges.{Time, Side}
 use Rattle.face.proofs.Bounds.{height-within}
 use Rattle.momentum.specs.Fits.{FaceFits}
+
+pub sum-within : {f : Face} → FaceFits f → Within 100000000 (newSum f)
+sum-within r = within-add (height-within (r .newK)) (height-within (r .newL))
 
 pub slope-within : {f : Face} {dt d : ℕ} → FaceFits f → Time dt → Side d → Within 20000000000 (slope dt d f)
 unfolding slope rise

@@ -1,7 +1,9 @@
 -- What a quotient requires, and what a new velocity does: the numbers around the face, the time step and the side in their ranges.
 use Prim.Native.Nat.{ℕ, _<_}
-use lib.IntN.{ℤ, natAbs}
+use mathlib.Core.Path.{_≡_}
+use lib.IntN.{ℤ, pos, natAbs}
 use Rattle.rules.specs.declared.Face.{Face}
+use Rattle.rules.specs.Step.{carried}
 use Rattle.laws.specs.Sizes.{Within}
 use Rattle.face.specs.Ranges.{Time, Side}
 use Rattle.momentum.specs.Fits.{FaceFits}
@@ -16,3 +18,8 @@ pub record InVelocity (f : Face) (dt d : ℕ) : Type 0 where
   pub face : FaceFits f
   pub time : Time dt
   pub side : Side d
+
+-- and the face carries nothing
+pub record InStillVelocity (f : Face) (dt d : ℕ) : Type 0 where
+  pub velocity : InVelocity f dt d
+  pub nothing : carried f ≡ pos 0

@@ -6,8 +6,9 @@ use mir.Facts.{toZ-ofZ}
 use Rattle.layout.specs.Ways.{isWall}
 use Rattle.layout.proofs.Pointing.{beside}
 use Rattle.around.specs.Faces.{AtFace}
+use Rattle.around.proofs.Still.{all-still}
 use Rattle.around.proofs.Ranges.{face-fits, still-place, still-fits}
-use Rattle.velocities.proofs.Velocities.{new-is, in-velocity, at-face, inner-is, still-is}
+use Rattle.velocities.proofs.Velocities.{new-is, in-velocity, in-still, at-face, inner-is, still-is}
 use Rattle.velocities.proofs.passes.velocity.Statement.{statement}
 use Rattle.velocities.proofs.passes.velocity.Tie as tie
 
@@ -41,10 +42,10 @@ still-face-requires c κs = still-place (inner (c .before))
 side-requires : tie.Need-side-requires
 side-requires c κs = search needs
 
-new-velocity-requires : tie.Need-new-velocity-requires
-new-velocity-requires c κs =
+still-velocity-requires : tie.Need-still-velocity-requires
+still-velocity-requires c κs =
     let b = c .before .before .before in
-    in-velocity (start b .pre .flowing) _ (still-fits (inner b)) (c .before .still-face .ensures) (c .side .ensures)
+    in-still (start b .pre .flowing) _ (still-fits (inner b)) (all-still _ _ _ _ _) (c .before .still-face .ensures) (c .side .ensures)
 
 returns-2 : tie.Need-returns-2
 returns-2 c =
@@ -52,8 +53,8 @@ returns-2 c =
     let t = s .before .before in
     let b = t .before in
     let p = start b .pre in
-    toZ-ofZ (record { sfits = c .new-velocity .ok })
-    ∙ c .new-velocity .ensures
+    toZ-ofZ (record { sfits = c .still-velocity .ok })
+    ∙ c .still-velocity .ensures
     ∙ rw (s .before .still-face .ensures)
     (still-is (p .flowing) _ (p .face) (no-wall (b .before .before)) (b .before .back .ensures) (b .back2 .ensures) (s .side .ensures) (p .both (t .if2 .taken)))
 
@@ -65,8 +66,8 @@ face-requires c κs = inner (c .before)
 side-requires-2 : tie.Need-side-requires-2
 side-requires-2 c κs = search needs
 
-new-velocity-requires-2 : tie.Need-new-velocity-requires-2
-new-velocity-requires-2 c κs =
+new-velocity-requires : tie.Need-new-velocity-requires
+new-velocity-requires c κs =
     let b = c .before .before .before in
     in-velocity (start b .pre .flowing) _ (face-fits (inner b)) (c .before .face .ensures) (c .side2 .ensures)
 
@@ -75,8 +76,8 @@ returns-3 c =
     let s = c .before in
     let b = s .before .before .before in
     let p = start b .pre in
-    toZ-ofZ (record { sfits = c .new-velocity2 .ok })
-    ∙ c .new-velocity2 .ensures
+    toZ-ofZ (record { sfits = c .new-velocity .ok })
+    ∙ c .new-velocity .ensures
     ∙ rw (s .before .face .ensures)
     (inner-is (p .flowing) _ (p .face) (no-wall (b .before .before)) (b .before .back .ensures) (b .back2 .ensures) (s .side2 .ensures))
 
@@ -90,9 +91,9 @@ velocity-spec =
     back-requires-2
     still-face-requires
     side-requires
-    new-velocity-requires
+    still-velocity-requires
     returns-2
     face-requires
     side-requires-2
-    new-velocity-requires-2
+    new-velocity-requires
     returns-3)
