@@ -1,5 +1,5 @@
--- The new velocity of a face, case by case: 0 where it is held, by the lack of water or by a dry bank, else the carried part less the slope; the slope alone where nothing is
--- carried, and 0 where both surfaces are one besides.
+-- The new velocity of a face, case by case: 0 without water, 0 on a dry bank, else the carried part less the slope. Where nothing is carried that is the slope alone, and 0
+-- where both surfaces are one.
 use Prim.Native.Nat.{ℕ}
 use mathlib.Core.Path.{_≡_, _∙_}
 use mathlib.Core.Bool.{true, false, _||_, or-true}
@@ -12,28 +12,27 @@ use Rattle.laws.specs.Tests.{either-way}
 use Rattle.laws.specs.Numbers.{zero-quot}
 
 module _ (dt d : ℕ) (f : Face) where
-  pub where-held : (isZero (newSum f) || dryBank f) ≡ true → newVelocity dt d f ≡ pos 0
-  unfolding newVelocity
-  where-held e = rw e
-
   pub without-water : isZero (newSum f) ≡ true → newVelocity dt d f ≡ pos 0
-  without-water e = where-held (rw e)
+  unfolding newVelocity
+  without-water e = rw e
 
   pub on-a-bank : dryBank f ≡ true → newVelocity dt d f ≡ pos 0
-  on-a-bank e = where-held (rw (e, or-true (isZero (newSum f))))
-
-  pub where-free : (isZero (newSum f) || dryBank f) ≡ false → newVelocity dt d f ≡ carriedPart f -ℤ slope dt d f
   unfolding newVelocity
-  where-free e = rw e
+  on-a-bank e = rw (e, or-true (isZero (newSum f)))
+
+  pub elsewhere : isZero (newSum f) ≡ false → dryBank f ≡ false → newVelocity dt d f ≡ carriedPart f -ℤ slope dt d f
+  unfolding newVelocity
+  elsewhere e n = rw (e, n)
+
+  -- a level surface has no slope
+  pub level : rise f ≡ pos 0 → slope dt d f ≡ pos 0
+  unfolding slope
+  level r = rw (r, mul-zero, zero-div)
 
   -- where nothing is carried
   module _ (nothing : carried f ≡ pos 0) where
-    pub slope-alone : (isZero (newSum f) || dryBank f) ≡ false → newVelocity dt d f ≡ pos 0 -ℤ slope dt d f
-    slope-alone e = where-free e ∙ rw (nothing, zero-quot (newSum f))
-
-    level : rise f ≡ pos 0 → slope dt d f ≡ pos 0
-    unfolding slope
-    level r = rw (r, mul-zero, zero-div)
+    pub slope-alone : isZero (newSum f) ≡ false → dryBank f ≡ false → newVelocity dt d f ≡ pos 0 -ℤ slope dt d f
+    slope-alone e n = elsewhere e n ∙ rw (nothing, zero-quot (newSum f))
 
     pub nothing-pulls : rise f ≡ pos 0 → newVelocity dt d f ≡ pos 0
     unfolding newVelocity

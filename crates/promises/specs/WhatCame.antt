@@ -17,7 +17,7 @@ use Rattle.rules.specs.Site.{Water, check, readGround, readState, isZero}
 use Rattle.rules.specs.Step.{walled, transfer, eastTransfer, northTransfer, forward, newHeight, after, before, eastFace, northFace, outAhead, outBehind, outAbove, outBelow, positive, oldSum, newSum, ownShare, allFlowIn, brought, carried, carriedPart, slope, dryBank, newVelocity, newEast, newNorth, next, limitKept}
 use Rattle.rules.specs.Starred.{oneRow, flat, passing, through}
 use Rattle.laws.specs.Walls.{on-inner}
-use Rattle.laws.specs.Velocity.{on-a-bank, where-free}
+use Rattle.laws.specs.Velocity.{on-a-bank, elsewhere}
 use Rattle.laws.specs.Balance.{flowOver, share-and-inflow, east-balance, north-balance}
 use Rattle.laws.specs.Weighed.{at-least, at-most}
 use Rattle.promises.specs.InnerFaces.{EveryInner, EveryFace}
@@ -77,7 +77,7 @@ pub record SlopePutBack (dt d : ℕ) (v : ℤ) (f : Face) : Type 0 where
 
 of-velocity : (dt d : ℕ) (f : Face) → SlopePutBack dt d (newVelocity dt d f) f
 of-velocity dt d f = record {
-  put-back = λ above no. rw (where-free dt d f (rw (above-is-not-0 (newSum f) above, no))) (-ℤ-+ℤ-cancel (carriedPart f) (slope dt d f));
+  put-back = λ above no. rw (elsewhere dt d f (above-is-not-0 (newSum f) above) no) (-ℤ-+ℤ-cancel (carriedPart f) (slope dt d f));
   on-a-bank = on-a-bank dt d f;
 }
   where

@@ -4,8 +4,7 @@ mod banks;
 use rules::Face;
 ghost use mathlib.Core.Path.{_≡_};
 ghost use lib.Signed.{quotZ};
-ghost use mathlib.Core.Bool.{_||_};
-ghost use Rattle.rules.specs.Site.{speedFits, isZero};
+ghost use Rattle.rules.specs.Site.{speedFits};
 ghost use Rattle.rules.specs.Step as step;
 ghost use Rattle.momentum.specs.Fits.{FaceFits};
 ghost use Rattle.velocity.specs.Fits.{InQuotient, InVelocity, InStillVelocity};
@@ -21,16 +20,24 @@ fn quotient(a: i64, b: i64) -> i64
     a / b
 }
 
-// Where both new surfaces stand level there is nothing to multiply and nothing to divide.
-fn slope(f: Face, dt: u32, d: u32) -> i64
-    requires { ⌜ InVelocity f dt d ⌝ }
-    ensures { λ r. ⌜ r ≡ step.slope dt d f ⌝ }
+// How much higher the new surface stands in L than in K.
+fn rise(f: Face) -> i32
+    requires { ⌜ FaceFits f ⌝ }
+    ensures { λ r. ⌜ r ≡ step.rise f ⌝ }
 {
     let hk = f.newK;
     let zk = f.groundK;
     let hl = f.newL;
     let zl = f.groundL;
-    let rise = (hl + zl) - (hk + zk);
+    (hl + zl) - (hk + zk)
+}
+
+// Where both new surfaces stand level there is nothing to multiply and nothing to divide.
+fn slope(f: Face, dt: u32, d: u32) -> i64
+    requires { ⌜ InVelocity f dt d ⌝ }
+    ensures { λ r. ⌜ r ≡ step.slope dt d f ⌝ }
+{
+    let rise = rise(f);
     if rise == 0 {
         return 0;
     }
@@ -49,32 +56,34 @@ fn new_sum(f: Face) -> i32
     k + l
 }
 
-// Whether the new velocity is 0, whatever the face carries. On a dry face no ground is read.
-fn held(f: Face) -> bool
-    requires { ⌜ FaceFits f ⌝ }
-    ensures { λ r. ⌜ r ≡ (isZero (step.newSum f) || step.dryBank f) ⌝ }
-{
-    new_sum(f) == 0 || banks::dry_bank(f)
-}
-
-// The new velocity of an inner face.
+// The new velocity of an inner face. On a dry face no ground is read.
 pub fn new_velocity(f: Face, dt: u32, d: u32) -> i64
     requires { ⌜ InVelocity f dt d ⌝ }
     ensures { λ r. ⌜ r ≡ step.newVelocity dt d f ⌝ }
 {
-    if held(f) {
+    let h = new_sum(f);
+    if h == 0 {
         return 0;
     }
-    quotient(momentum::carried(f), new_sum(f) as i64) - slope(f, dt, d)
+    if banks::dry_bank(f) {
+        return 0;
+    }
+    quotient(momentum::carried(f), h as i64) - slope(f, dt, d)
 }
 
-// That of a face which carries nothing, as all do between still rows. A function of its own: the compiler would make one of both, and every still face
-// would go through the products of one that moves.
+// That of a face which carries nothing, as none does between still rows; on a level surface, as of a lake, no bank is looked for. It is a function of
+// its own: the compiler would make one place of two calls of the other, and have every still face go through the products of one that moves.
 pub fn still_velocity(f: Face, dt: u32, d: u32) -> i64
     requires { ⌜ InStillVelocity f dt d ⌝ }
     ensures { λ r. ⌜ r ≡ step.newVelocity dt d f ⌝ }
 {
-    if held(f) {
+    if new_sum(f) == 0 {
+        return 0;
+    }
+    if rise(f) == 0 {
+        return 0;
+    }
+    if banks::dry_bank(f) {
         return 0;
     }
     0 - slope(f, dt, d)

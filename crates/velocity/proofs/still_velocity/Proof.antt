@@ -1,28 +1,59 @@
--- `still_velocity`: where nothing is carried, the slope alone makes the new velocity of a face that is not held.
-use mathlib.Core.Path.{_∙_, sym}
+-- `still_velocity`: without water, on a level surface and on a bank nothing pulls where nothing is carried; elsewhere the slope alone does.
+use mathlib.Core.Path.{_∙_, sym, ap}
 use borrow.Author.Needs.{needs}
-use mir.Syntax.{w64}
-use Rattle.laws.specs.Velocity.{where-held, slope-alone}
-use Rattle.laws.specs.Exact.{Node, fits, value, lit, result, sub}
-use Rattle.velocity.proofs.Bounds.{slope-within}
+use borrow.Author.Tests.{eq-eqb, ne-eqb}
+use lib.IntN.{natAbs}
+use mir.Syntax.{w32, w64}
+use Rattle.laws.specs.Velocity.{without-water, on-a-bank, slope-alone, nothing-pulls}
+use Rattle.laws.specs.Exact.{Node, fits, value, is-zero, not-zero, lit, result, sub}
+use Rattle.velocity.proofs.Bounds.{sum-within, rise-within, slope-within}
 use Rattle.velocity.proofs.still_velocity.Statement.{statement}
 use Rattle.velocity.proofs.still_velocity.Tie as tie
 
+-- H' and the rise, and what the three tests return
+abbrev h : tie.After-new-sum → Node w32
+h c = result (c .new-sum .ensures) (sum-within (c .before .pre .velocity .face)) tt
+
+abbrev summed : tie.After-rise → tie.After-new-sum
+summed c = c .before .before
+
+abbrev risen : tie.After-rise → Node w32
+risen c = result (c .rise .ensures) (rise-within (summed c .before .pre .velocity .face)) tt
+
 returns : tie.Need-returns
-returns c = let h = c .before in sym (where-held _ _ _ (sym (h .held .ensures) ∙ c .if1 .taken))
-
-abbrev start : tie.After-slope → tie.Start
-start c = c .before .before .before
-
-abbrev new : tie.After-slope → Node w64
-new c = let r = start c .pre .velocity in sub (lit 0 tt) (result (c .slope .ensures) (slope-within (r .face) (r .time) (r .side)) tt) tt
+returns c = sym (without-water _ _ _ (eq-eqb _ 0 (ap natAbs (is-zero (h (c .before)) (c .if1 .taken)))))
 
 returns-2 : tie.Need-returns-2
-returns-2 c = let free = c .before in value (new c) ∙ sym (slope-alone _ _ _ (start c .pre .nothing) (sym (free .before .held .ensures) ∙ free .if1 .left))
+returns-2 c = let r = c .before in sym (nothing-pulls _ _ _ (summed r .before .pre .nothing) (is-zero (risen r) (c .if2 .taken)))
+
+returns-3 : tie.Need-returns-3
+returns-3 c = let b = c .before in sym (on-a-bank _ _ _ (sym (b .dry-bank .ensures) ∙ c .if3 .taken))
+
+-- any other face
+abbrev free : tie.After-slope → tie.Else3
+free c = c .before
+
+abbrev level : tie.After-slope → tie.After-rise
+level c = free c .before .before .before
+
+abbrev new : tie.After-slope → Node w64
+new c = let r = summed (level c) .before .pre .velocity in sub (lit 0 tt) (result (c .slope .ensures) (slope-within (r .face) (r .time) (r .side)) tt) tt
+
+returns-4 : tie.Need-returns-4
+returns-4 c =
+    let s = summed (level c) in
+    value (new c)
+    ∙ sym (slope-alone _ _ _ (s .before .pre .nothing) (ne-eqb _ 0 (not-zero (h s) (level c .before .if1 .left))) (sym (free c .before .dry-bank .ensures) ∙ free c .if3 .left))
 
 -- that the difference fits, and what each call requires
-held-requires : tie.Need-held-requires
-held-requires c κs = search needs
+new-sum-requires : tie.Need-new-sum-requires
+new-sum-requires c κs = search needs
+
+rise-requires : tie.Need-rise-requires
+rise-requires c κs = search needs
+
+dry-bank-requires : tie.Need-dry-bank-requires
+dry-bank-requires c κs = search needs
 
 slope-requires : tie.Need-slope-requires
 slope-requires c κs = search needs
@@ -31,4 +62,15 @@ sub-result : tie.Need-sub-result
 sub-result c = fits (new c)
 
 pub still-velocity-spec : {M : Type 1} → statement M
-still-velocity-spec = tie.close (tie.spec held-requires returns slope-requires sub-result returns-2)
+still-velocity-spec =
+    tie.close
+    (tie.spec
+    new-sum-requires
+    returns
+    rise-requires
+    returns-2
+    dry-bank-requires
+    returns-3
+    slope-requires
+    sub-result
+    returns-4)
