@@ -11,7 +11,7 @@
 -- Each start and operation is an `abbrev`, so that `fits t` computes to the need and `value t` to the equation with the definition.
 use Prim.Native.Nat.{ℕ, _+_, _*_, _≤_, _<_, _^_}
 use mathlib.Core.Path.{_≡_, refl, sym, ap, _∙_, subst}
-use native.Mathlib.Nat.{le-trans, le-refl, mul-le-mul, div-le-self, lt-of-le-of-lt, add-le-add, le-of-eq, suc-ne-zero}
+use native.Mathlib.Nat.{le-trans, le-refl, mul-le-mul, div-le-self, lt-of-le-of-lt, add-le-add, le-of-eq}
 use native.Mathlib.Omega.{arith}
 use borrow.Author.Tests.{eq-eqb}
 use lib.Dec.{T, eqb, ltb, eqb→eq, ltb→lt}
@@ -22,7 +22,7 @@ use mir.Syntax.{Width, w32, w64}
 use mir.Val.{Fits, SFits, toZ, ofZ, hbits}
 use mir.Facts.{toZ-ofZ}
 use Rattle.laws.specs.Tests.{both-ways, to-T}
-use Rattle.laws.specs.Numbers.{abs-neg}
+use Rattle.laws.specs.Numbers.{no-size, zero-is, abs-neg}
 use Rattle.laws.specs.Sizes.{Within, natAbs-add, natAbs-mul, natAbs-quot, mag-le}
 
 pub record Node (w : Width) : Type 0 where
@@ -125,15 +125,11 @@ cast a t = record { raw = read a; z = a .z; N = a .N; is = value a; small = a .s
 zero-bits : (w : Width) → toZ w 0 ≡ pos 0
 zero-bits w = toZ-ofZ {w = w} (record { sfits = pow-pos (hbits w) })
 
+no-bits : {w : Width} {z : ℤ} → SFits w z → ofZ w z ≡ 0 → z ≡ pos 0
+no-bits {w} fit e = sym (toZ-ofZ fit) ∙ ap (toZ w) e ∙ zero-bits w
+
 pub is-zero : {w : Width} (t : Node w) → ofZ w (t .raw) ≡ 0 → t .z ≡ pos 0
-is-zero {w} t e = sym (value t) ∙ ap (toZ w) e ∙ zero-bits w
-
-pub no-size : (z : ℤ) → natAbs z ≡ 0 → z ≡ pos 0
-no-size (pos n) e = ap pos e
-no-size (negsuc n) e = absurd (suc-ne-zero n e)
-
-pub zero-is : (z : ℤ) → T (eqb (natAbs z) 0) → z ≡ pos 0
-zero-is z t = no-size z (eqb→eq (natAbs z) 0 t)
+is-zero t e = sym (t .is) ∙ no-bits (fits t) e
 
 pub not-zero : {w : Width} (t : Node w) → (ofZ w (t .raw) ≡ 0 → ⊥) → natAbs (t .z) ≡ 0 → ⊥
 not-zero {w} t f e = f (ap (ofZ w) (t .is ∙ no-size (t .z) e))
@@ -142,7 +138,7 @@ not-zero {w} t f e = f (ap (ofZ w) (t .is ∙ no-size (t .z) e))
 pub zero-test : {w : Width} {z : ℤ} → SFits w z → eqb (ofZ w z) 0 ≡ eqb (natAbs z) 0
 zero-test {w} {z} fit =
     both-ways (eqb (ofZ w z) 0) (eqb (natAbs z) 0)
-    (λ t. to-T (eq-eqb (natAbs z) 0 (ap natAbs (sym (toZ-ofZ fit) ∙ ap (toZ w) (eqb→eq (ofZ w z) 0 t) ∙ zero-bits w))))
+    (λ t. to-T (eq-eqb (natAbs z) 0 (ap natAbs (no-bits fit (eqb→eq (ofZ w z) 0 t)))))
     (λ t. to-T (eq-eqb (ofZ w z) 0 (ap (ofZ w) (zero-is z t))))
 
 -- the bits of a number other than 0 are not 0

@@ -140,6 +140,12 @@ sound-depths c g s sound =
     let w = readState c s in
     four-of (groundsFit c (readGround c g)) (heightsFit c w) (velocitiesFit c w) (wallsStill c w) (to-T (sound .values)) .two
 
+pub sound-speeds : (c : Card) (g s : List ℤ) → Sound c g s → T (velocitiesFit c (readState c s))
+unfolding valuesFit
+sound-speeds c g s sound =
+    let w = readState c s in
+    four-of (groundsFit c (readGround c g)) (heightsFit c w) (velocitiesFit c w) (wallsStill c w) (to-T (sound .values)) .three
+
 pub sound-facts : (c : Card) (g s : List ℤ) → Sound c g s → Fits c g s
 unfolding valuesFit readGround readState stateLength
 sound-facts c g s sound =

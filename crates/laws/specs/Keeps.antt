@@ -28,7 +28,7 @@ module _ (c : Card) (w v : Water) (𝓐 : Alike c w v) where
   unfolding heightsFit
   depths-alike = allAt-same (c .columns) (c .rows) _ _ (λ i j hi hj. rw (𝓐 .height i j hi hj))
 
-  faces-alike : velocitiesFit c w ≡ velocitiesFit c v
+  pub faces-alike : velocitiesFit c w ≡ velocitiesFit c v
   unfolding velocitiesFit
   faces-alike =
       ap₂ _&&_

@@ -1,16 +1,24 @@
--- Laws of the integers that the kit lacks: the order of `leZ`, and signs.
+-- Laws of the integers that the kit lacks: the test for 0, quotients of 0, the order of `leZ`, and signs.
 use Prim.Native.Nat.{ℕ, zero, suc, _+_, _-_, zero-le}
 use mathlib.Core.Path.{_≡_, refl, ap}
 use mathlib.Core.Bool.{Bool, true, false, cond}
-use native.Mathlib.Nat.{zero-div, le-refl, le-trans, le-antisymm}
+use native.Mathlib.Nat.{suc-ne-zero, zero-div, le-refl, le-trans, le-antisymm}
 use native.Mathlib.Omega.{arith}
 use lib.IntN.{ℤ, pos, negsuc, negℤ, natAbs, _+ℤ_}
 use lib.Signed.{leZ, quotZ}
-use lib.Dec.{T, ltb, leb→le, le→leb, lt→ltb}
+use lib.Dec.{T, eqb, ltb, eqb→eq, leb→le, le→leb, lt→ltb}
 use lib.Arith.{le→nltb}
 use Rattle.laws.specs.Tests.{true-of, false-of}
 -- the signs in sums, products and quotients, which `Fair` needs too
 pub use Rattle.rules.proofs.Signs.{neg-mul, mul-neg, neg-quot, +ℤ-left-comm, sums}
+
+-- the test for 0
+pub no-size : (z : ℤ) → natAbs z ≡ 0 → z ≡ pos 0
+no-size (pos n) e = ap pos e
+no-size (negsuc n) e = absurd (suc-ne-zero n e)
+
+pub zero-is : (z : ℤ) → T (eqb (natAbs z) 0) → z ≡ pos 0
+zero-is z t = no-size z (eqb→eq (natAbs z) 0 t)
 
 pub abs-neg : (a : ℤ) → natAbs (negℤ a) ≡ natAbs a
 abs-neg (pos zero) = refl

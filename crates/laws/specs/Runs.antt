@@ -1,4 +1,4 @@
--- The run over any step, a step at a time: gone on, stopped or finished; what a loop over its steps carries; and how a site's run begins.
+-- The run over any step, a step at a time: gone on, stopped or finished; a run that stands; what a loop over its steps carries; and how a site's run begins.
 use Prim.Native.Nat.{ℕ, zero, suc, _+_, _-_, _≤_, _<_, suc-le-suc, zero-le}
 use mathlib.Core.Path.{_≡_, refl, sym, ap, _∙_, subst}
 use mathlib.Core.List.{List}
@@ -9,8 +9,8 @@ use lib.Signed.{leZ}
 use Rattle.rules.specs.declared.Card.{Card}
 use Rattle.rules.specs.declared.Tally.{Tally}
 use Rattle.rules.specs.Site.{check}
-use Rattle.laws.specs.Tests.{either-way}
 use Rattle.rules.specs.Run.{SteppingOf, OutcomeOf, started, accepted, stoppedFor, runOn, runFrom, siteStep, runAll, runAfter, run}
+use Rattle.laws.specs.Tests.{either-way}
 
 module _ {S : Type 0} (step : SteppingOf S) where
   -- the tally after one accepted step more, from the state s

@@ -1,8 +1,8 @@
--- Where velocities are 0: nothing crosses such a face; a cell whose four faces are such keeps the step limit and its height; and a face that is such a one, around which
--- nothing crosses, as between two such cells, carries nothing.
+-- Where velocities are 0: nothing crosses a face that has none; a cell whose four faces have none keeps the step limit and its height; the face between two such
+-- cells carries nothing.
 use Prim.Native.Nat.{ℕ, zero, suc, _*_, zero-le}
 use mathlib.Core.Path.{_≡_, refl}
-use mathlib.Core.Bool.{true, cond}
+use mathlib.Core.Bool.{true}
 use native.Mathlib.Nat.{zero-mul, mul-zero}
 use borrow.Author.Tests.{le-leb}
 use lib.Dec.{ltb}

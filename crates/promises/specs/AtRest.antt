@@ -1,6 +1,6 @@
--- Document 02, [2]: when water is still. All velocities are 0; neighbouring wet cells have one surface, and each dry cell's ground is at or above its wet neighbours' surface:
--- a test of each inner face.
-use Prim.Native.Nat.{ℕ, suc, _-_}
+-- Document 02, [2]: when water is still. All velocities are 0; neighbouring wet cells have one surface, and each dry cell's ground is at or above its wet
+-- neighbours' surface: a test of each inner face.
+use Prim.Native.Nat.{ℕ, suc}
 use mathlib.Core.Bool.{Bool, true, false, _&&_}
 use mathlib.Core.List.{List}
 use lib.IntN.{ℤ, _+ℤ_, _-ℤ_}
@@ -8,6 +8,7 @@ use lib.Signed.{leZ}
 use Rattle.rules.specs.declared.Card.{Card}
 use Rattle.rules.specs.Grid.{Field, allAt}
 use Rattle.rules.specs.Site.{Water, readGround, readState, isZero}
+use Rattle.promises.specs.InnerFaces.{everyInner}
 
 -- ---- A face: of its cells K and L, by their heights and grounds
 
@@ -30,9 +31,9 @@ eastRests g w i j = rests (w .height i j) (g i j) (w .height (suc i) j) (g (suc 
 abbrev pub northRests : Field → Water → ℕ → ℕ → Bool
 northRests g w i j = rests (w .height i j) (g i j) (w .height i (suc j)) (g i (suc j))
 
--- every inner face; they are counted by their cell K, one fewer than columns or rows
+-- every inner face
 unfoldable pub facesRest : Card → Field → Water → Bool
-facesRest c g w = allAt (c .columns - 1) (c .rows) (eastRests g w) && allAt (c .columns) (c .rows - 1) (northRests g w)
+facesRest c g w = everyInner c (eastRests g w) (northRests g w)
 
 -- all velocities 0
 abbrev pub eastStill : Water → ℕ → ℕ → Bool

@@ -1,9 +1,9 @@
 -- Document 02, [7]: refusal 6 has no input. Document 01 gave it to a negative own share, and looked for it behind 4 and 5. But where a site passes the first three
 -- checks and each of its cells keeps the step limit, no own share is negative. (The limit is [9]'s; what keeps document 01's own keeps it too, NothingLost.antt.)
 -- So a step's number with that look is its number without it, a run is the same run, and neither the step nor the run ever answers 6.
-use Prim.Native.Nat.{ℕ, zero, suc, _-_, _≤_}
+use Prim.Native.Nat.{ℕ, zero, suc, _≤_}
 use mathlib.Core.Path.{_≡_, refl, sym, subst, _∙_}
-use mathlib.Core.Bool.{Bool, true, false, _&&_}
+use mathlib.Core.Bool.{Bool, true, false}
 use mathlib.Core.List.{List}
 use native.Mathlib.Omega.{arith}
 use lib.IntN.{ℤ, pos}
@@ -11,13 +11,12 @@ use lib.ListN.{length}
 use lib.Signed.{leZ}
 use lib.Dec.{T}
 use Rattle.rules.specs.declared.Card.{Card}
-use Rattle.rules.specs.Grid.{Field, allAt}
+use Rattle.rules.specs.Grid.{Field}
 use Rattle.rules.specs.Site.{Water, checkAlso, check, checkWith, firstRefusal, readGround, readState}
 use Rattle.rules.specs.Step.{Rule, eastFace, northFace, ownShare, newVelocity, limitKept, newHeightsFit, newVelocitiesFit, answer, number, stepNumberBy, stepNumber, nextState}
 use Rattle.rules.specs.Run.{Stepping, peak, siteStep, runFrom, runAfter, run}
 use Rattle.rules.specs.Calls.{stepAnswer, runOutcome, runTally}
-use Rattle.laws.specs.Tests.{true-of, to-T, and-both}
-use Rattle.laws.specs.Grids.{allAt-intro}
+use Rattle.laws.specs.Tests.{true-of, to-T}
 use Rattle.laws.specs.Checks.{at-most-3}
 use Rattle.laws.specs.Facts.{card-facts, sound-depths, check-sound, check-of-with}
 use Rattle.laws.specs.Bounded.{east-share, north-share}
@@ -25,7 +24,7 @@ use Rattle.laws.specs.Keeps.{keeps}
 use Rattle.laws.specs.Runs.{begun}
 use Rattle.laws.specs.Follows.{Follows, follows}
 use Rattle.laws.specs.Outcomes.{first-same}
-use Rattle.promises.specs.InnerFaces.{EveryInner}
+use Rattle.promises.specs.InnerFaces.{EveryInner, everyInner, inner-intro}
 use Rattle.promises.specs.TheCall.{call-runs}
 use Rattle.promises.specs.NeverInTheMiddle.{OfAStep, done, overTheLimit, tooHigh, tooFast, step-numbers, Ends, ends}
 
@@ -38,9 +37,9 @@ eastShareFits c g w i j = leZ (pos 0) (ownShare (eastFace c g w i j))
 abbrev pub northShareFits : Card → Field → Water → ℕ → ℕ → Bool
 northShareFits c g w i j = leZ (pos 0) (ownShare (northFace c g w i j))
 
--- of every inner face; they are counted by their cell K, one fewer than columns or rows
+-- of every inner face
 unfoldable pub sharesFit : Card → Field → Water → Bool
-sharesFit c g w = allAt (c .columns - 1) (c .rows) (eastShareFits c g w) && allAt (c .columns) (c .rows - 1) (northShareFits c g w)
+sharesFit c g w = everyInner c (eastShareFits c g w) (northShareFits c g w)
 
 -- the step's number with it: the lowest of 4 to 7 that applies
 unfoldable pub answerWith6 : (limit heights shares speeds : Bool) → ℕ
@@ -80,13 +79,9 @@ module _ (c : Card) (g s : List ℤ) (e : check c g s ≡ 0) where
   pub shares-fit : limitKept c (readState c s) ≡ true → sharesFit c (readGround c g) (readState c s) ≡ true
   unfolding sharesFit
   shares-fit limit =
-      let n = no-negative-share limit in
       let east = eastShareFits c (readGround c g) (readState c s) in
       let north = northShareFits c (readGround c g) (readState c s) in
-      true-of (allAt (c .columns - 1) (c .rows) east && allAt (c .columns) (c .rows - 1) north)
-      (and-both (allAt (c .columns - 1) (c .rows) east) (allAt (c .columns) (c .rows - 1) north)
-      (allAt-intro (c .columns - 1) (c .rows) east (λ i j hi hj. n .east i j (omega arith) hj))
-      (allAt-intro (c .columns) (c .rows - 1) north (λ i j hi hj. n .north i j hi (omega arith))))
+      true-of (everyInner c east north) (inner-intro c east north (no-negative-share limit))
 
 -- a look that passes wherever the limit is kept changes no number
 pub passed-over : (l h s v : Bool) → (l ≡ true → s ≡ true) → answerWith6 l h s v ≡ answer l h v

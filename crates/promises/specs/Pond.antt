@@ -1,5 +1,5 @@
--- Still water on numbers: a pond with a shore, a cape and a puddle of its own level meets document 02's condition; with 1 µm more in one of its cells it does not, but so small
--- a rise rounds to no slope at sides of 1 m and 100 ms, and nothing moves; with 2 µm more it moves.
+-- Still water on numbers: a pond with a shore, a cape and a puddle of its own level meets document 02's condition. With 1 µm more in one of its cells it does
+-- not, but at sides of 1 m and 100 ms so small a rise rounds to no slope, and nothing moves; with 2 µm more it moves.
 use mathlib.Core.Path.{_≡_, refl}
 use mathlib.Core.Bool.{true, false}
 use mathlib.Core.List.{List, [], _∷_, _++_}
@@ -7,8 +7,9 @@ use lib.IntN.{ℤ, pos, negℤ}
 use Rattle.rules.specs.declared.Card.{Card}
 use Rattle.rules.specs.Grid.{tabulate, grid, all, allAt}
 use Rattle.rules.specs.Site.{readGround, readState, writeState, stateLength, sizesFit, sidesFit, timesFit, cardFits, lengthsFit, groundsFit, heightsFit, velocitiesFit, wallsStill, valuesFit, firstOf, checkAlso, check}
-use Rattle.rules.specs.Step.{walled, transfer, eastTransfer, northTransfer, forward, newHeight, after, before, eastFace, northFace, outAhead, outBehind, outAbove, outBelow, positive, ownShare, brought, carried, rise, slope, isBank, dryBank, newVelocity, newEast, newNorth, next, nextStateBy, nextState}
+use Rattle.rules.specs.Step.{walled, transfer, eastTransfer, northTransfer, forward, backward, withinLimit, newHeight, after, before, eastFace, northFace, outAhead, outBehind, outAbove, outBelow, positive, ownShare, brought, carried, rise, slope, isBank, dryBank, newVelocity, newEast, newNorth, next, limitKept, newHeightsFit, newVelocitiesFit, answer, number, stepNumberBy, nextStateBy, stepNumber, nextState}
 use Rattle.rules.specs.Starred.{flat}
+use Rattle.promises.specs.InnerFaces.{everyInner}
 use Rattle.promises.specs.AtRest.{restsBetween, facesRest, allStill, stillWater}
 
 unfoldable pub pondCard : Card
@@ -35,15 +36,18 @@ pond deepest = pondHeights deepest ++ flat 31
 unfoldable pub stirred : (deepest west east south north : ℤ) → List ℤ
 stirred deepest a b c d = pondHeights deepest ++ ((flat 6 ++ (a ∷ b ∷ flat 7)) ++ (flat 5 ++ (c ∷ flat 3) ++ (d ∷ flat 6)))
 
+-- what a step makes of it: it is accepted, and leaves this state
+abbrev pub Becomes : (state then : List ℤ) → Type 0
+Becomes s then = (stepNumber pondCard pondGround s ≡ 0) × (nextState pondCard pondGround s ≡ then)
+
 pub record PondOnNumbers : Type 0 where
   -- 800,000 in the deepest cell: the site passes the first three checks, and its water is still
   pub meets : (check pondCard pondGround (pond (pos 800000)) ≡ 0) × (stillWater pondCard pondGround (pond (pos 800000)) ≡ true)
   -- 1 µm more: it is not, though nothing moves yet
-  pub misses : (stillWater pondCard pondGround (pond (pos 800001)) ≡ false) × (nextState pondCard pondGround (pond (pos 800001)) ≡ pond (pos 800001))
-  -- 2 µm more: it is not, and the water runs out of the deepest cell on all sides, up the shore in the west and the south too
-  pub moves : (stillWater pondCard pondGround (pond (pos 800002)) ≡ false)
-      × (nextState pondCard pondGround (pond (pos 800002)) ≡ stirred (pos 800002) (negℤ (pos 1)) (pos 1) (negℤ (pos 1)) (pos 1))
+  pub misses : (stillWater pondCard pondGround (pond (pos 800001)) ≡ false) × Becomes (pond (pos 800001)) (pond (pos 800001))
+  -- 2 µm more: it is not, and all four faces of the deepest cell get 1 µm/s out of it, up the shore in the west and the south too
+  pub moves : (stillWater pondCard pondGround (pond (pos 800002)) ≡ false) × Becomes (pond (pos 800002)) (stirred (pos 800002) (negℤ (pos 1)) (pos 1) (negℤ (pos 1)) (pos 1))
 
 pub pond-on-numbers : PondOnNumbers
-unfolding pondCard pondGround pondHeights pond stirred flat tabulate grid all allAt readGround readState writeState stateLength sizesFit sidesFit timesFit cardFits lengthsFit groundsFit heightsFit velocitiesFit wallsStill valuesFit firstOf checkAlso check walled transfer eastTransfer northTransfer forward newHeight after before eastFace northFace outAhead outBehind outAbove outBelow positive ownShare brought carried rise slope isBank dryBank newVelocity newEast newNorth next nextStateBy nextState restsBetween facesRest allStill stillWater
-pond-on-numbers = record { meets = (refl, refl); misses = (refl, refl); moves = (refl, refl) }
+unfolding pondCard pondGround pondHeights pond stirred flat tabulate grid all allAt readGround readState writeState stateLength sizesFit sidesFit timesFit cardFits lengthsFit groundsFit heightsFit velocitiesFit wallsStill valuesFit firstOf checkAlso check walled transfer eastTransfer northTransfer forward backward withinLimit newHeight after before eastFace northFace outAhead outBehind outAbove outBelow positive ownShare brought carried rise slope isBank dryBank newVelocity newEast newNorth next limitKept newHeightsFit newVelocitiesFit answer number stepNumberBy nextStateBy stepNumber nextState everyInner restsBetween facesRest allStill stillWater
+pond-on-numbers = record { meets = (refl, refl); misses = (refl, (refl, refl)); moves = (refl, (refl, refl)) }

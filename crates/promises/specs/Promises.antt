@@ -37,7 +37,7 @@ pub use Rattle.promises.specs.RoundTrips.{write-then-read, not-written, 
 -- a window turned over lists nothing; -0.0 is 0
 pub use Rattle.promises.specs.Searches.{finds, as-long-as-lent, count-at-8, inside-exactly, compared-exactly, lists-nothing, minus-zero-answer, minus-zero-list}
 -- of document 02's [9], a face that counts only in the cell that its velocity points out of: a step which document 01's own limit accepted is accepted with the
--- same next state, a run which it did not stop is the same run, no answer but 4 changed; and, on numbers, what that limit accepted and refused
+-- same next state, a run which it did not stop is the same run, no answer but 4 changed, by any rule for the velocities; and, on numbers, what that limit accepted and refused
 pub use Rattle.promises.specs.NothingLost.{step-stays, run-stays, number-stays-by, number-stays, answer-stays, was-accepted, was-refused}
 -- of document 02's [7], that refusal 6 has no input: no own share is negative where the step limit is kept; a step's number, its answer and a run with document
 -- 01's look for 6 are those without it; neither the step nor the run ever answers 6
@@ -45,12 +45,12 @@ pub use Rattle.promises.specs.NoNegativeShare.{no-negative-share, number
 -- of document 02's [8], that no water is made and none is lost: the sum of all heights after a step, and after a run whatever its reason, is that before; so of the
 -- public calls; and how great it can be
 pub use Rattle.promises.specs.WaterKept.{next-sum-by, next-sum, run-sum, sum-of-the-step, sum-of-the-run, sum-fits}
--- and that what is carried stays between what came: the balance of each inner face; the bounds of the carried part of its new velocity, and that it is this velocity's, where
--- no dry bank makes that 0; who does not count, walls, and what lies beyond them; and, on numbers, bounds that are met
+-- and that what is carried stays between what came: the balance of each inner face; the bounds of the carried part of its new velocity, and that this velocity is
+-- that part less the slope, or 0 without water and on a dry bank; who does not count, walls, and what lies beyond them; and, on numbers, bounds that are met
 pub use Rattle.promises.specs.WhatCame.{balance, carried-between, slope-put-back, brought-nothing, walls-are-0, no-flow-beyond, bounds-on-numbers}
--- of document 02's [2], that still water stays (`stillWater`, AtRest.antt): all velocities 0, neighbouring wet cells of one surface, each dry cell's ground at or above its
--- wet neighbours' surface. The step is accepted and leaves the state as it is, the run does all the steps wanted; so of the public calls; and, on numbers, a pond with a shore
--- that lies still, and by how little it moves
+-- of document 02's [2], that still water stays (`stillWater`, AtRest.antt): all velocities 0, neighbouring wet cells of one surface, each dry cell's ground at or
+-- above its wet neighbours' surface. The step is accepted and leaves the state as it is, the run does all the steps wanted; so of the public calls; and, on
+-- numbers, a pond with a shore that lies still, and by how little it moves
 pub use Rattle.promises.specs.StillWater.{still-water, still-of-the-step, still-of-the-run}
 pub use Rattle.promises.specs.Pond.{pond-on-numbers}
 

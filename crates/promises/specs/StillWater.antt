@@ -1,19 +1,20 @@
--- Document 02, [2]: still water stays. A site that passes the first three checks and whose water is still (AtRest.antt): its step is accepted, and its next state is the state;
--- its run does all the steps wanted, with reason 0, the greatest height as top, and the state unchanged.
-use Prim.Native.Nat.{ℕ, _%_, _/_}
-use mathlib.Core.Path.{_≡_, refl, ap, _∙_}
-use mathlib.Core.Bool.{true, false}
-use mathlib.Core.List.{List, [], _∷_, _++_}
-use lib.IntN.{ℤ, pos, negℤ}
-use lib.ListN.{length}
+-- Document 02, [2]: still water stays. A site that passes the first three checks and whose water is still (AtRest.antt): its step is accepted, and its next state
+-- is the state; its run does all the steps wanted, with reason 0, the greatest height as top, and the state unchanged.
+use mathlib.Core.Path.{_≡_, ap, _∙_}
+use mathlib.Core.Bool.{true}
+use mathlib.Core.List.{List}
+use lib.IntN.{ℤ, pos}
+use lib.ListN.{length, replicate}
 use Rattle.rules.specs.declared.Card.{Card}
-use Rattle.rules.specs.Site.{check, firstRefusal}
+use Rattle.rules.specs.Site.{check, checkWith, firstRefusal}
 use Rattle.rules.specs.Step.{newVelocity, stepNumber, nextState}
 use Rattle.rules.specs.Run.{Outcome, peak, siteStep, run}
-use Rattle.rules.specs.Calls.{stepAnswer, stepNext, runOutcome, runTally, runState}
+use Rattle.rules.specs.Calls.{stepAnswer, stepNext, runTally, runState, runScratch}
+use Rattle.laws.specs.Facts.{check-own}
 use Rattle.laws.specs.Runs.{begun, stands}
 use Rattle.promises.specs.AtRest.{stillWater}
 use Rattle.promises.specs.WhyStill.{rested, number-by, next-by}
+use Rattle.promises.specs.Refused.{scratch-zero}
 use Rattle.promises.specs.TheCall.{call-steps, call-leaves, call-runs}
 
 -- ---- What is promised: of the step and the run, and of the public calls, each lent a list as long as the state
@@ -30,6 +31,7 @@ pub record CallStaysStill (c : Card) (g s next : List ℤ) : Type 0 where
 pub record RunCallStaysStill (c : Card) (g s scratch : List ℤ) : Type 0 where
   pub tally : runTally c g s scratch ≡ record { steps = c .steps; reason = 0; top = peak c s }
   pub state : runState c g s scratch ≡ s
+  pub scratch-zero : runScratch c g s scratch ≡ replicate (length scratch) (pos 0)
 
 -- ---- The theorems
 
@@ -55,4 +57,8 @@ module _ (c : Card) (g s : List ℤ) (passes : check c g s ≡ 0) (still : still
   unfolding runTally runState
   still-of-the-run scratch l =
       let e = call-runs c g s scratch l ∙ still-water .runs in
-      record { tally = ap (λ (o : Outcome). o .tally) e; state = ap (λ (o : Outcome). o .state) e }
+      record {
+        tally = ap (λ (o : Outcome). o .tally) e;
+        state = ap (λ (o : Outcome). o .state) e;
+        scratch-zero = scratch-zero c g s scratch (ap (checkWith c g s) l ∙ check-own c g s ∙ passes);
+      }

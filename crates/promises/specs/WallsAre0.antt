@@ -13,7 +13,7 @@ use Rattle.rules.specs.Step.{walled, eastTransfer, northTransfer, eastFace, nor
 use Rattle.laws.specs.Tests.{to-T, and-left, and-right, four-of}
 use Rattle.laws.specs.Grids.{all-at}
 use Rattle.laws.specs.Walls.{wall}
-use Rattle.laws.specs.Exact.{zero-is}
+use Rattle.laws.specs.Numbers.{zero-is}
 use Rattle.laws.specs.Facts.{check-sound}
 
 -- of a site that passes the first three checks: behind the first inner face of a row, ahead of its last; and so of a column

@@ -25,7 +25,7 @@ use Rattle.laws.specs.Totals.{sumAt-same, sumAt-between}
 use Rattle.promises.specs.Endings.{Proper, ends-as}
 use Rattle.promises.specs.TheCall.{call-leaves}
 
--- ---- The step, by any rule for the new velocities, and then by document 01's
+-- ---- The step, by any rule for the new velocities, and then by the one that the calls have
 
 module _ (c : Card) (g s : List ℤ) where
   pub next-sum-by : (rule : Rule) → sumOfHeights c (nextStateBy rule c g s) ≡ sumOfHeights c s

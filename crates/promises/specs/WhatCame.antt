@@ -17,7 +17,7 @@ use Rattle.rules.specs.Site.{Water, check, readGround, readState, isZero}
 use Rattle.rules.specs.Step.{walled, transfer, eastTransfer, northTransfer, forward, newHeight, after, before, eastFace, northFace, outAhead, outBehind, outAbove, outBelow, positive, oldSum, newSum, ownShare, allFlowIn, brought, carried, carriedPart, slope, dryBank, newVelocity, newEast, newNorth, next, limitKept}
 use Rattle.rules.specs.Starred.{oneRow, flat, passing, through}
 use Rattle.laws.specs.Walls.{on-inner}
-use Rattle.laws.specs.Velocity.{on-a-bank, elsewhere}
+use Rattle.laws.specs.Velocity.{without-water, on-a-bank, elsewhere}
 use Rattle.laws.specs.Balance.{flowOver, share-and-inflow, east-balance, north-balance}
 use Rattle.laws.specs.Weighed.{at-least, at-most}
 use Rattle.promises.specs.InnerFaces.{EveryInner, EveryFace}
@@ -69,16 +69,18 @@ carried-between c g s e limit =
       north = λ i j hi hj above. stays-between _ (n .north i j hi hj) (b .north i j hi hj) above;
     }
 
--- and it is the new velocity's, given the velocity v that the face has in the next state: with the slope put back that is the carried part, where H' is above 0 and neither
--- cell is a dry bank. On a bank there is none: the velocity is 0 (document 02, [2]).
+-- And it is the new velocity's. Given the velocity v that the face has in the next state: with the slope put back that is the carried part, where H' is above 0
+-- and neither cell is a dry bank. Without water, and on a bank (document 02, [2]), nothing is carried on.
 pub record SlopePutBack (dt d : ℕ) (v : ℤ) (f : Face) : Type 0 where
   pub put-back : T (ltZ (pos 0) (newSum f)) → dryBank f ≡ false → v +ℤ slope dt d f ≡ carriedPart f
-  pub on-a-bank : dryBank f ≡ true → v ≡ pos 0
+  pub no-water : isZero (newSum f) ≡ true → v ≡ pos 0
+  pub on-bank : dryBank f ≡ true → v ≡ pos 0
 
 of-velocity : (dt d : ℕ) (f : Face) → SlopePutBack dt d (newVelocity dt d f) f
 of-velocity dt d f = record {
   put-back = λ above no. rw (elsewhere dt d f (above-is-not-0 (newSum f) above) no) (-ℤ-+ℤ-cancel (carriedPart f) (slope dt d f));
-  on-a-bank = on-a-bank dt d f;
+  no-water = without-water dt d f;
+  on-bank = on-a-bank dt d f;
 }
   where
     above-is-not-0 : (z : ℤ) → T (ltZ (pos 0) z) → isZero z ≡ false

@@ -1,8 +1,8 @@
--- Why still water stays. Where no face has a velocity nothing crosses any, so that every height stays and the step limit is kept; and a face that rests gets the velocity 0:
--- between two wet cells of one surface nothing pulls, and a dry cell beside a wet one is a bank.
-use Prim.Native.Nat.{ℕ, suc, _-_, _≤_, _<_, suc-le-suc}
+-- Why still water stays. Where no face has a velocity nothing crosses a face, so that every height stays and the step limit is kept; and a face that rests gets
+-- the velocity 0: between two wet cells of one surface nothing pulls, and a dry cell beside a wet one is a bank.
+use Prim.Native.Nat.{ℕ, suc, _≤_, _<_, suc-le-suc}
 use mathlib.Core.Path.{_≡_, refl, sym, _∙_}
-use mathlib.Core.Bool.{Bool, true, false, _&&_}
+use mathlib.Core.Bool.{Bool, true, false}
 use mathlib.Core.List.{List}
 use native.Mathlib.Omega.{arith}
 use lib.IntN.{ℤ, pos}
@@ -11,32 +11,26 @@ use lib.Dec.{T}
 use Rattle.rules.specs.declared.Card.{Card}
 use Rattle.rules.specs.declared.Face.{Face}
 use Rattle.rules.specs.Grid.{Field, allAt}
-use Rattle.rules.specs.Site.{Water, check, readGround, readState, isZero, speedFits, heightFits, heightsFit}
+use Rattle.rules.specs.Site.{Water, check, readGround, readState, isZero, heightFits, heightsFit, velocitiesFit}
 use Rattle.rules.specs.Step.{Rule, newHeight, eastFace, northFace, surfaceK, surfaceL, rise, isBank, dryBank, newVelocity, newEast, newNorth, next, withinLimit, limitKept, newHeightsFit, newVelocitiesFit, answer, number, stepNumberBy, nextStateBy}
-use Rattle.laws.specs.Tests.{true-of, to-T, and-both, and-left, and-right}
+use Rattle.laws.specs.Tests.{true-of, to-T, and-left, and-right}
 use Rattle.laws.specs.Grids.{allAt-at, allAt-intro}
-use Rattle.laws.specs.Exact.{zero-is}
+use Rattle.laws.specs.Numbers.{zero-is}
 use Rattle.laws.specs.States.{Alike, write-same, write-read}
 use Rattle.laws.specs.Walls.{everywhere}
+use Rattle.laws.specs.Keeps.{faces-alike}
 use Rattle.laws.specs.Still.{StillCell, limit-still, height-still, NothingCrosses, carries-nothing, east-none, north-none}
 use Rattle.laws.specs.Velocity.{without-water, on-a-bank, nothing-pulls}
-use Rattle.laws.specs.Facts.{Sound, length-facts, sound-depths, check-sound}
+use Rattle.laws.specs.Facts.{Sound, length-facts, sound-depths, sound-speeds, check-sound}
+use Rattle.promises.specs.InnerFaces.{EveryInner, inner-at}
 use Rattle.promises.specs.AtRest.{restsBetween, rests, eastRests, northRests, facesRest, eastStill, northStill, allStill, stillWater}
 
--- tests over two grids, as of eastward and of northward faces
-module _ (m n a b : ℕ) (p q : ℕ → ℕ → Bool) (t : T (allAt m n p && allAt a b q)) where
-  first-grid : (i j : ℕ) → i < m → j < n → T (p i j)
-  first-grid = allAt-at m n p (and-left (allAt m n p) (allAt a b q) t)
+-- ---- One face: what a rule for new velocities owes one that rests and around which nothing crosses; document 02's rule gives it
 
-  second-grid : (i j : ℕ) → i < a → j < b → T (q i j)
-  second-grid = allAt-at a b q (and-right (allAt m n p) (allAt a b q) t)
+abbrev pub LeavesAtRest : Rule → Type 0
+LeavesAtRest rule = (dt d : ℕ) (f : Face) → NothingCrosses f → T (rests (f .newK) (f .groundK) (f .newL) (f .groundL)) → rule dt d f ≡ pos 0
 
--- ---- One face: what a rule for new velocities owes a face that rests and around which nothing crosses, and that document 02's rule gives it
-
-abbrev pub Rests : Rule → Type 0
-Rests rule = (dt d : ℕ) (f : Face) → NothingCrosses f → T (rests (f .newK) (f .groundK) (f .newL) (f .groundL)) → rule dt d f ≡ pos 0
-
-pub rested : Rests newVelocity
+pub rested : LeavesAtRest newVelocity
 unfolding restsBetween rise dryBank isBank
 rested dt d f none = go (isZero (f .newK)) (isZero (f .newL)) refl refl
   where
@@ -48,7 +42,7 @@ rested dt d f none = go (isZero (f .newK)) (isZero (f .newL)) refl refl
 
 -- ---- A site that passes the first three checks and whose water is still, by any such rule
 
-module _ (rule : Rule) (owes : Rests rule) (c : Card) (g s : List ℤ) (passes : check c g s ≡ 0) (still : stillWater c g s ≡ true) where
+module _ (rule : Rule) (owes : LeavesAtRest rule) (c : Card) (g s : List ℤ) (passes : check c g s ≡ 0) (still : stillWater c g s ≡ true) where
   abbrev z : Field
   z = readGround c g
 
@@ -58,30 +52,28 @@ module _ (rule : Rule) (owes : Rests rule) (c : Card) (g s : List ℤ) (passes :
   sound : Sound c g s
   sound = check-sound c g s passes
 
-  -- the two halves of the condition, each of eastward and of northward faces
+  -- the two halves of the condition
   unmoved : T (allStill c w)
   unfolding stillWater
   unmoved = and-left (allStill c w) (facesRest c z w) (to-T still)
 
-  resting : T (facesRest c z w)
-  unfolding stillWater
-  resting = and-right (allStill c w) (facesRest c z w) (to-T still)
+  resting : EveryInner c (λ i j. T (eastRests z w i j)) (λ i j. T (northRests z w i j))
+  unfolding stillWater facesRest
+  resting = inner-at c (eastRests z w) (northRests z w) (and-right (allStill c w) (facesRest c z w) (to-T still))
+
+  abbrev east-still : Bool
+  east-still = allAt (suc (c .columns)) (c .rows) (eastStill w)
+
+  abbrev north-still : Bool
+  north-still = allAt (c .columns) (suc (c .rows)) (northStill w)
 
   east-0 : (i j : ℕ) → i ≤ c .columns → j < c .rows → w .east i j ≡ pos 0
   unfolding allStill
-  east-0 i j hi hj = zero-is (w .east i j) (first-grid (suc (c .columns)) (c .rows) (c .columns) (suc (c .rows)) (eastStill w) (northStill w) unmoved i j (suc-le-suc hi) hj)
+  east-0 i j hi hj = zero-is (w .east i j) (allAt-at (suc (c .columns)) (c .rows) (eastStill w) (and-left east-still north-still unmoved) i j (suc-le-suc hi) hj)
 
   north-0 : (i j : ℕ) → i < c .columns → j ≤ c .rows → w .north i j ≡ pos 0
   unfolding allStill
-  north-0 i j hi hj = zero-is (w .north i j) (second-grid (suc (c .columns)) (c .rows) (c .columns) (suc (c .rows)) (eastStill w) (northStill w) unmoved i j hi (suc-le-suc hj))
-
-  east-rests : (i j : ℕ) → suc i < c .columns → j < c .rows → T (eastRests z w i j)
-  unfolding facesRest
-  east-rests i j hi hj = first-grid (c .columns - 1) (c .rows) (c .columns) (c .rows - 1) (eastRests z w) (northRests z w) resting i j (omega arith) hj
-
-  north-rests : (i j : ℕ) → i < c .columns → suc j < c .rows → T (northRests z w i j)
-  unfolding facesRest
-  north-rests i j hi hj = second-grid (c .columns - 1) (c .rows) (c .columns) (c .rows - 1) (eastRests z w) (northRests z w) resting i j hi (omega arith)
+  north-0 i j hi hj = zero-is (w .north i j) (allAt-at (c .columns) (suc (c .rows)) (northStill w) (and-right east-still north-still unmoved) i j hi (suc-le-suc hj))
 
   -- each cell keeps the limit and its height
   cell : (i j : ℕ) → i < c .columns → j < c .rows → StillCell w i j
@@ -100,13 +92,13 @@ module _ (rule : Rule) (owes : Rests rule) (c : Card) (g s : List ℤ) (passes :
   unfolding eastFace
   rule-east i j hi hj =
       owes (c .dt) (c .dx) (eastFace c z w i j) (east-none c z (cell i j (omega arith) hj) (cell (suc i) j hi hj))
-      (rw (same i j (omega arith) hj, same (suc i) j hi hj) (east-rests i j hi hj))
+      (rw (same i j (omega arith) hj, same (suc i) j hi hj) (resting .east i j hi hj))
 
   rule-north : (i j : ℕ) → i < c .columns → suc j < c .rows → rule (c .dt) (c .dy) (northFace c z w i j) ≡ pos 0
   unfolding northFace
   rule-north i j hi hj =
       owes (c .dt) (c .dy) (northFace c z w i j) (north-none c z (cell i j hi (omega arith)) (cell i (suc j) hi hj))
-      (rw (same i j hi (omega arith), same i (suc j) hi hj) (north-rests i j hi hj))
+      (rw (same i j hi (omega arith), same i (suc j) hi hj) (resting .north i j hi hj))
 
   -- and walls have it
   new-east : (i j : ℕ) → j < c .rows → newEast rule c z w i j ≡ pos 0
@@ -148,14 +140,8 @@ module _ (rule : Rule) (owes : Rests rule) (c : Card) (g s : List ℤ) (passes :
       (and-right (leZ (pos 0) h) (leZ h (pos 50000000)) (allAt-at (c .columns) (c .rows) (λ i j. heightFits (w .height i j)) (sound-depths c g s sound) i j hi hj))))
 
   speeds : newVelocitiesFit rule c z w ≡ true
-  unfolding newVelocitiesFit
-  speeds =
-      let east : ℕ → ℕ → Bool = λ i j. speedFits (newEast rule c z w i j) in
-      let north : ℕ → ℕ → Bool = λ i j. speedFits (newNorth rule c z w i j) in
-      true-of (allAt (suc (c .columns)) (c .rows) east && allAt (c .columns) (suc (c .rows)) north)
-      (and-both (allAt (suc (c .columns)) (c .rows) east) (allAt (c .columns) (suc (c .rows)) north)
-      (allAt-intro (suc (c .columns)) (c .rows) east (λ i j hi hj. rw (new-east i j hj) tt))
-      (allAt-intro (c .columns) (suc (c .rows)) north (λ i j hi hj. rw (new-north i j hi) tt)))
+  unfolding newVelocitiesFit velocitiesFit next
+  speeds = faces-alike c (next rule c z w) w alike ∙ true-of (velocitiesFit c w) (sound-speeds c g s sound)
 
   pub number-by : stepNumberBy rule c g s ≡ 0
   unfolding stepNumberBy number answer

@@ -145,7 +145,7 @@ module _ (f : Face) where
   unfolding newVelocity sideForSide slope rise dryBank
   velocity-by-sides dt d = rw carried-by-sides
 
--- what demand 3 asks of a rule for new velocities; document 01's has it
+-- what demand 3 asks of a rule for new velocities; document 01's, with [2]'s banks, has it
 pub record Fair (rule : Rule) : Type 0 where
   pub by-ends : (f : Face) (dt d : ℕ) → rule dt d (endForEnd f) ≡ negℤ (rule dt d f)
   pub by-sides : (f : Face) (dt d : ℕ) → rule dt d (sideForSide f) ≡ rule dt d f

@@ -71,10 +71,15 @@ pub record Starred : Type 0 where
   -- a dry bank, document 01's case, with document 02's [2]: it no longer pulls
   pub dry-bank : Steps 2 (pos 0 ∷ pos 1500000 ∷ []) (two (pos 1000000) (pos 0) (pos 0)) (two (pos 1000000) (pos 0) (pos 0))
   -- [2], a bank just as high as the water, and a velocity left on its face: that is 0 now; a bank 1 µm lower is none, and the velocity stays
-  pub bank-level : Steps 2 (pos 0 ∷ pos 1000000 ∷ []) (two (pos 1000000) (pos 0) (negℤ (pos 3000000))) (two (pos 1000000) (pos 0) (pos 0))
-  pub bank-below : Steps 2 (pos 0 ∷ pos 999999 ∷ []) (two (pos 1000000) (pos 0) (negℤ (pos 3000000))) (two (pos 1000000) (pos 0) (negℤ (pos 3000000)))
+  pub bank-level : Steps 2 (negℤ (pos 400000) ∷ pos 600000 ∷ []) (two (pos 1000000) (pos 0) (negℤ (pos 3000000))) (two (pos 1000000) (pos 0) (pos 0))
+  pub bank-below : Steps 2 (negℤ (pos 400000) ∷ pos 599999 ∷ []) (two (pos 1000000) (pos 0) (negℤ (pos 3000000))) (two (pos 1000000) (pos 0) (negℤ (pos 3000000)))
+  -- [2], a bank with 1 µm of water on it is not dry
+  pub bank-wet : Steps 2 (pos 0 ∷ pos 1500000 ∷ []) (two (pos 1000000) (pos 1) (pos 0)) (two (pos 1000000) (pos 1) (negℤ (pos 490333)))
   -- [2], the new heights count: the west cell is dry once the step has emptied it, and a bank
   pub bank-emptied : Steps 2 (pos 3000000 ∷ pos 0 ∷ []) (two (pos 2000000) (pos 1000000) (pos 10000000)) (two (pos 0) (pos 3000000) (pos 0))
+  -- [2], so does the new surface: it comes up to the bank in the east, which stops the water that runs there; one 1 µm lower does not
+  pub bank-stops : Steps 3 (pos 0 ∷ pos 0 ∷ pos 2000000 ∷ []) (passing (pos 2000000) (pos 1000000) (pos 0) (pos 5000000) (pos 0)) (passing (pos 1000000) (pos 2000000) (pos 0) (pos 2352668) (pos 0))
+  pub bank-overrun : Steps 3 (pos 0 ∷ pos 0 ∷ pos 1999999 ∷ []) (passing (pos 2000000) (pos 1000000) (pos 0) (pos 5000000) (pos 0)) (passing (pos 1000000) (pos 2000000) (pos 0) (pos 2352668) (pos 2500000))
   -- "dry", "<1 cm", "1 cm", "2 cm"
   pub text-0 : depthText (pos 0) ≡ 100 ∷ 114 ∷ 121 ∷ []
   pub text-9999 : depthText (pos 9999) ≡ 60 ∷ 49 ∷ 32 ∷ 99 ∷ 109 ∷ []
@@ -98,7 +103,10 @@ starred = record {
   dry-bank = (refl, refl);
   bank-level = (refl, refl);
   bank-below = (refl, refl);
+  bank-wet = (refl, refl);
   bank-emptied = (refl, refl);
+  bank-stops = (refl, refl);
+  bank-overrun = (refl, refl);
   text-0 = refl;
   text-9999 = refl;
   text-10000 = refl;

@@ -207,8 +207,8 @@ slope dt d f = quotZ (pos (9806650 * dt) *ℤ rise f) (pos (1000 * d))
 -- ---- Dry banks (document 02, [2]): one of a face's cells is dry after the step and its ground is at or above the other's new surface
 
 -- a cell, by its new height and its ground, beside the other cell's new surface
-unfoldable pub isBank : (height ground other : ℤ) → Bool
-isBank h z other = isZero h && leZ other z
+unfoldable pub isBank : (height ground surface : ℤ) → Bool
+isBank h z surface = isZero h && leZ surface z
 
 -- K beside L, and L beside K
 abbrev pub bankK : Face → Bool

@@ -6,7 +6,6 @@ use mathlib.Core.Logic.{⊎-elim}
 use mathlib.Core.Bool.{Bool, true, false, not, cond, _&&_, true≢false, false≢true}
 use mathlib.Core.List.{List}
 use native.Mathlib.Omega.{arith}
-use borrow.Author.Tests.{eqb-true}
 use lib.Dec.{T}
 use lib.IntN.{ℤ, pos}
 use lib.ListN.{length, getD, set, length-set}
@@ -16,7 +15,7 @@ use Rattle.rules.specs.declared.Card.{Card}
 use Rattle.rules.specs.Site.{Water, readState, isZero}
 use Rattle.laws.specs.Tests.{Three, three-of, true-of, and-left, and-right, to-T}
 use Rattle.laws.specs.Grids.{all-at, all-broken}
-use Rattle.laws.specs.Exact.{no-size}
+use Rattle.laws.specs.Numbers.{zero-is}
 use Rattle.laws.specs.Facts.{Ranges}
 use Rattle.laws.specs.Lines.{isEnd, no-end}
 use Rattle.layout.specs.Ways.{wide, high, back, forth, speeds}
@@ -28,7 +27,7 @@ module _ (c : Card) (w : Water) (east : Bool) (i j : ℕ) (h : i < wide c east) 
   -- a face of a still row
   pub row-at : rowStill c w east j ≡ true → speeds w east i j ≡ pos 0
   unfolding rowStill
-  row-at e = no-size _ (eqb-true _ 0 (true-of _ (all-at (wide c east) (λ k. isZero (speeds w east k j)) (to-T e) i h)))
+  row-at e = zero-is _ (all-at (wide c east) (λ k. isZero (speeds w east k j)) (to-T e) i h)
 
   -- one face that moves decides for its row
   pub row-moves : isZero (speeds w east i j) ≡ false → false ≡ rowStill c w east j

@@ -1,13 +1,12 @@
 -- What crosses the faces of one way: nothing at a wall, and between two cells the transfer of an inner face.
-use mathlib.Core.Path.{_≡_, _∙_, refl}
+use mathlib.Core.Path.{_≡_, _∙_}
 use mathlib.Core.Bool.{Bool, true, false, not, cond}
-use Prim.Native.Nat.{ℕ, zero, suc, _≤_}
+use Prim.Native.Nat.{ℕ, _≤_}
 use native.Mathlib.Omega.{arith}
-use lib.IntN.{ℤ, pos}
-use lib.Dec.{ltb}
+use lib.IntN.{pos}
 use Rattle.rules.specs.declared.Card.{Card}
 use Rattle.rules.specs.Site.{Water}
-use Rattle.rules.specs.Step.{walled, transfer, eastTransfer, northTransfer}
+use Rattle.rules.specs.Step.{transfer, eastTransfer, northTransfer}
 use Rattle.laws.specs.Lines.{walled-is}
 use Rattle.laws.specs.Still.{east-still, north-still}
 use Rattle.layout.specs.Ways.{wide, high, side, isWall, back, forth, speeds, transfers}

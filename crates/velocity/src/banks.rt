@@ -1,17 +1,17 @@
-// Dry banks: where one of a face's cells is dry after the step and its ground is at or above the other's new surface, nothing pulls at the water.
+// Dry banks: where one of a face's cells is dry after the step and its ground is at or above the other's new surface, the new velocity is 0.
 use rules::Face;
 ghost use mathlib.Core.Path.{_≡_};
 ghost use Rattle.rules.specs.Step as step;
 ghost use Rattle.momentum.specs.Fits.{FaceFits};
 
-// Whether a cell is a dry bank to water that stands as high as `other` beyond the face.
-fn is_bank(height: i32, ground: i32, other: i32) -> bool
-    ensures { λ r. ⌜ r ≡ step.isBank height ground other ⌝ }
+// Whether a cell is a dry bank beside another whose new surface is given.
+fn is_bank(height: i32, ground: i32, surface: i32) -> bool
+    ensures { λ r. ⌜ r ≡ step.isBank height ground surface ⌝ }
 {
-    (height == 0) & (other <= ground)
+    (height == 0) & (surface <= ground)
 }
 
-// Whether one of the face's cells is one to the other.
+// Whether one of the face's cells is a dry bank beside the other.
 pub fn dry_bank(f: Face) -> bool
     requires { ⌜ FaceFits f ⌝ }
     ensures { λ r. ⌜ r ≡ step.dryBank f ⌝ }

@@ -14,7 +14,7 @@ use rules::Card;
 pub fn is_zero(z: i32) -> bool
     ensures { λ r. ⌜ r ≡ isZero z ⌝ }
 {
-    (0 <= z) & (z <= 0)
+    z == 0
 }
 
 // Whether n pairs of words, one pair in each stride from `first` and from `second` on, are 0.

@@ -1,6 +1,5 @@
 -- `new_velocity`: H' is tested before it divides, and then the banks; the bounds on A and on the slope keep the difference from wrapping.
 use mathlib.Core.Path.{_≡_, _∙_, sym, ap}
-use mathlib.Core.Bool.{false}
 use native.Mathlib.Omega.{arith}
 use borrow.Author.Needs.{needs}
 use borrow.Author.Tests.{eq-eqb, ne-eqb}

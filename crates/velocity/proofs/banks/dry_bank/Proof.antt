@@ -13,8 +13,8 @@ abbrev start : tie.After-struct-told4 → tie.Start
 start c = c .before .before .before .before
 
 -- what the test of one cell returned, of the numbers that its locals hold
-told : (h z other : Node w32) {r : Bool} → r ≡ isBank (read h) (read z) (read other) → r ≡ isBank (h .z) (z .z) (other .z)
-told h z other e = e ∙ rw (value h, value z, value other)
+told : (h z s : Node w32) {r : Bool} → r ≡ isBank (read h) (read z) (read s) → r ≡ isBank (h .z) (z .z) (s .z)
+told h z s e = e ∙ rw (value h, value z, value s)
 
 -- K beside L, and L beside K
 returns : tie.Need-returns

@@ -1,4 +1,4 @@
--- `is_bank`: the test for 0 compares bits, and the height fits its word; the order is that of the numbers.
+-- `is_bank`: the test for 0 compares bits, and the height fits its word; the order is that of the numbers. (With `& true` behind it the function is proved too.)
 use mathlib.Core.Bool.{and-true}
 use mir.Facts.{toZ-ofZ}
 use Rattle.rules.specs.Step.{isBank}
@@ -8,7 +8,7 @@ use Rattle.velocity.proofs.banks.is_bank.Tie as tie
 
 returns : tie.Need-returns
 unfolding isBank
-returns c = simp (zero-test (c .fits .height), toZ-ofZ (c .fits .other), toZ-ofZ (c .fits .ground), and-true)
+returns c = simp (zero-test (c .fits .height), toZ-ofZ (c .fits .surface), toZ-ofZ (c .fits .ground), and-true)
 
 pub is-bank-spec : {M : Type 1} → statement M
 is-bank-spec = tie.close (tie.spec returns)
