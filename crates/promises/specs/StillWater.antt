@@ -24,7 +24,7 @@ pub record StaysStill (c : Card) (g s : List ℤ) : Type 0 where
   pub next : nextState c g s ≡ s
   pub runs : run c g s ≡ record { tally = record { steps = c .steps; reason = 0; top = peak c s }; state = s }
 
-pub record CallStaysStill (c : Card) (g s next : List ℤ) : Type 0 where
+pub record StepCallStaysStill (c : Card) (g s next : List ℤ) : Type 0 where
   pub number : stepAnswer c g s next ≡ 0
   pub state : stepNext c g s next ≡ s
 
@@ -47,7 +47,7 @@ module _ (c : Card) (g s : List ℤ) (passes : check c g s ≡ 0) (still : still
   pub still-water : StaysStill c g s
   still-water = record { number = accepted; next = unchanged; runs = begun c g s passes ∙ stands (siteStep c g) s accepted unchanged (c .steps) }
 
-  pub still-of-the-step : (next : List ℤ) → length next ≡ length s → CallStaysStill c g s next
+  pub still-of-the-step : (next : List ℤ) → length next ≡ length s → StepCallStaysStill c g s next
   unfolding firstRefusal
   still-of-the-step next l =
       let a : stepAnswer c g s next ≡ 0 = call-steps c g s next l ∙ rw (passes, accepted) in

@@ -61,19 +61,19 @@ module _ (rule : Rule) (owes : LeavesAtRest rule) (c : Card) (g s : List ℤ) (p
   unfolding stillWater facesRest
   resting = inner-at c (eastRests z w) (northRests z w) (and-right (allStill c w) (facesRest c z w) (to-T still))
 
-  abbrev east-still : Bool
-  east-still = allAt (suc (c .columns)) (c .rows) (eastStill w)
+  abbrev all-east : Bool
+  all-east = allAt (suc (c .columns)) (c .rows) (eastStill w)
 
-  abbrev north-still : Bool
-  north-still = allAt (c .columns) (suc (c .rows)) (northStill w)
+  abbrev all-north : Bool
+  all-north = allAt (c .columns) (suc (c .rows)) (northStill w)
 
   east-0 : (i j : ℕ) → i ≤ c .columns → j < c .rows → w .east i j ≡ pos 0
   unfolding allStill
-  east-0 i j hi hj = zero-is (w .east i j) (allAt-at (suc (c .columns)) (c .rows) (eastStill w) (and-left east-still north-still unmoved) i j (suc-le-suc hi) hj)
+  east-0 i j hi hj = zero-is (w .east i j) (allAt-at (suc (c .columns)) (c .rows) (eastStill w) (and-left all-east all-north unmoved) i j (suc-le-suc hi) hj)
 
   north-0 : (i j : ℕ) → i < c .columns → j ≤ c .rows → w .north i j ≡ pos 0
   unfolding allStill
-  north-0 i j hi hj = zero-is (w .north i j) (allAt-at (c .columns) (suc (c .rows)) (northStill w) (and-right east-still north-still unmoved) i j hi (suc-le-suc hj))
+  north-0 i j hi hj = zero-is (w .north i j) (allAt-at (c .columns) (suc (c .rows)) (northStill w) (and-right all-east all-north unmoved) i j hi (suc-le-suc hj))
 
   -- each cell keeps the limit and its height
   cell : (i j : ℕ) → i < c .columns → j < c .rows → StillCell w i j
