@@ -33,7 +33,7 @@ fn channel(cells: usize) -> Site {
 }
 
 fn main() -> std::io::Result<()> {
-    for name in ["dam-break", "pond-at-rest", "basin-fills"] {
+    for name in ["dam-break", "pond-at-rest", "pond-with-shore", "basin-fills"] {
         let sheet = std::fs::read(Path::new("../examples").join(format!("{name}.sheet")))?;
         let site = Site::read_sheet(&sheet).expect("a good sheet");
         tell(name, &site, site.card().steps);

@@ -29,6 +29,23 @@ fn pond_at_rest() -> Site {
     still(card(12, 6, 100, 100), bowl, move |i, j| 1_200_000 - bowl(i, j))
 }
 
+/// A pond in a bowl with a dry shore and an island, its surface at 83 cm; in the slope to the east two puddles stand higher, each at a level
+/// of its own, the first one just as high as the ground west of it: nothing moves.
+fn pond_with_shore() -> Site {
+    let ground = |i: i32, j: i32| match (i, j) {
+        (5 | 6, 5) => 900_000,
+        (13, 3) => 1_200_000,
+        (14, 6) => 1_750_000,
+        _ => 10_000 * ((2 * i - 13).pow(2) + 2 * (2 * j - 9).pow(2)),
+    };
+    let level = |i: i32, j: i32| match (i, j) {
+        (13, 3) => 1_390_000,
+        (14, 6) => 1_850_000,
+        _ => 830_000,
+    };
+    still(card(16, 10, 100, 200), ground, move |i, j| (level(i, j) - ground(i, j)).max(0))
+}
+
 /// An upper yard drains down a ramp into a basin 1.5 m below, deepest along its middle; a film of 2 cm covers ramp and basin at the start.
 fn basin_fills() -> Site {
     let ground = |i: i32, j: i32| match i {
@@ -41,7 +58,13 @@ fn basin_fills() -> Site {
 
 fn main() -> std::io::Result<()> {
     let folder = std::env::args().nth(1).unwrap_or_else(|| "../examples".into());
-    for (name, site) in [("dam-break", dam_break()), ("pond-at-rest", pond_at_rest()), ("basin-fills", basin_fills())] {
+    let sheets = [
+        ("dam-break", dam_break()),
+        ("pond-at-rest", pond_at_rest()),
+        ("pond-with-shore", pond_with_shore()),
+        ("basin-fills", basin_fills()),
+    ];
+    for (name, site) in sheets {
         std::fs::write(Path::new(&folder).join(format!("{name}.sheet")), site.write_sheet())?;
     }
     Ok(())

@@ -11,7 +11,7 @@ fn litres(volume: u128) -> u128 {
 }
 
 fn main() -> std::io::Result<()> {
-    for name in ["dam-break", "pond-at-rest", "basin-fills"] {
+    for name in ["dam-break", "pond-at-rest", "pond-with-shore", "basin-fills"] {
         let sheet = std::fs::read(Path::new("../examples").join(format!("{name}.sheet")))?;
         let mut site = Site::read_sheet(&sheet).expect("a good sheet");
         let first = site.volume();
