@@ -147,13 +147,10 @@ static uint32_t step(const int32_t ground[2], const int32_t state[9], int32_t ne
 }
 
 static void steps(void) {
-    static const int32_t bank[2] = {0, 1500000};
     int32_t still[9] = {2000000, 1000000, 0, 0, 0, 0, 0, 0, 0};
     const int32_t first[9] = {2000000, 1000000, 0, 980665, 0, 0, 0, 0, 0};
     const int32_t second[9] = {1803867, 1196133, 0, 1512534, 0, 0, 0, 0, 0};
     const int32_t emptied[9] = {0, 3000000, 0, 391338, 0, 0, 0, 0, 0};
-    const int32_t dry[9] = {1000000, 0, 0, 0, 0, 0, 0, 0, 0};
-    const int32_t pulled[9] = {1000000, 0, 0, -490332, 0, 0, 0, 0, 0};
     int32_t three[9] = {3, 3, 0, 5000000, 0, 0, 0, 0, 0};
     int32_t next[9], after[9];
     EXPECT(step(flat, still, next) == 0 && SAME(next, first));
@@ -165,7 +162,17 @@ static void steps(void) {
     EXPECT(step(flat, three, next) == 0 && next[0] == 2 && next[1] == 4);
     three[3] = -5000000;
     EXPECT(step(flat, three, next) == 0 && next[0] == 4 && next[1] == 2);
-    EXPECT(step(bank, dry, next) == 0 && SAME(next, pulled));
+}
+
+/* document 02, [2]: a dry bank does not pull, nor one that is just as high as the water; 1 um below the surface there is no bank */
+static void dry_banks(void) {
+    static const int32_t high[2] = {0, 1500000}, level[2] = {0, 1000000}, low[2] = {0, 999999};
+    const int32_t still[9] = {1000000, 0, 0, 0, 0, 0, 0, 0, 0};
+    const int32_t left[9] = {1000000, 0, 0, -3000000, 0, 0, 0, 0, 0};
+    int32_t next[9];
+    EXPECT(step(high, still, next) == 0 && SAME(next, still));
+    EXPECT(step(level, left, next) == 0 && SAME(next, still));
+    EXPECT(step(low, left, next) == 0 && SAME(next, left));
 }
 
 /* document 02, [9]: both inner faces of three cells at 6,000,000 */
@@ -352,6 +359,7 @@ static void no_pointers(void) {
 int main(void) {
     for (fenced = 0; fenced <= 1; fenced++) {
         steps();
+        dry_banks();
         passing_through();
         at_rest();
         run(1, 10000, 0);

@@ -1,4 +1,5 @@
-//! "Numbers to check by", every one of them, in the document's order. Sides 1,000,000, dt 100, flat ground 0 unless told.
+//! "Numbers to check by", every one of them, in the document's order, with those of document 02's requests. Sides 1,000,000, dt 100, flat
+//! ground 0 unless told.
 
 use crate::library;
 use crate::rng::Rng;
@@ -62,9 +63,24 @@ fn three_cells_at_rest() {
     assert_eq!(next, state);
 }
 
+/// Document 02, [2]: the bank that pulled with -490,332 no longer does.
 #[test]
-fn a_dry_bank_pulls() {
-    assert_eq!(step_pair([0, 1_500_000], [1_000_000, 0], 0), Ok(pair([1_000_000, 0], -490_332)));
+fn a_dry_bank_does_not_pull() {
+    assert_eq!(step_pair([0, 1_500_000], [1_000_000, 0], 0), Ok(pair([1_000_000, 0], 0)));
+}
+
+/// At the surface it is a bank, and 1 µm below it is none; there a rise of -1 rounds to no slope.
+#[test]
+fn a_bank_as_high_as_the_water() {
+    let left = -3_000_000;
+    assert_eq!(step_pair([0, 1_000_000], [1_000_000, 0], left), Ok(pair([1_000_000, 0], 0)));
+    assert_eq!(step_pair([0, 999_999], [1_000_000, 0], left), Ok(pair([1_000_000, 0], left)));
+}
+
+/// New heights count: the west cell is dry only after the step.
+#[test]
+fn a_bank_by_its_new_height() {
+    assert_eq!(step_pair([3_000_000, 0], [2_000_000, 1_000_000], 10_000_000), Ok(pair([0, 3_000_000], 0)));
 }
 
 #[test]

@@ -99,8 +99,8 @@ fn south_comes_first() {
 fn runs_that_are_stopped() {
     // 4 and 5 and 7, each after the steps that the model says
     let mut four = Wild::empty(Card { dt: 100, ..card(2, 1, 100) });
-    four.ground[1] = 1_500_000;
-    four.state[0] = 1_000_000;
+    four.ground[0] = 4_000_000;
+    four.state[..2].fill(1_000_000);
     let mut five = Wild::empty(Card { dt: 100, ..card(2, 1, 100) });
     five.ground[1] = -30_000_000;
     five.state[..2].copy_from_slice(&[20_000_000, 49_500_000]);

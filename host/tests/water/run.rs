@@ -55,9 +55,9 @@ fn each_reason_on_the_way() {
         let mut state = [heights[0], heights[1], 0, middle, 0, 0, 0, 0, 0];
         library::run(&mut Rng::new(1), card, &ground, &mut state, &mut [1; 9])
     };
-    // the dry bank of document 01 pulls harder with each step, until the step limit is broken
-    let four = run(card, [0, 1_500_000], [1_000_000, 0], 0);
-    assert_eq!((four.reason, four.top), (4, 1_000_000));
+    // down a step of 4 m the water gets faster, until more would leave the upper cell than it holds
+    let four = run(card, [4_000_000, 0], [1_000_000, 1_000_000], 0);
+    assert_eq!((four.reason, four.top), (4, 1_994_049));
     // a cell that is nearly full takes in more than it has room for
     let five = run(card, [0, -30_000_000], [20_000_000, 49_500_000], 0);
     assert_eq!(five.reason, 5);
@@ -66,6 +66,16 @@ fn each_reason_on_the_way() {
     assert_eq!(seven.reason, 7);
     assert!(four.steps > 0 && five.steps > 0 && seven.steps > 0, "on the way: {four:?}, {five:?}, {seven:?}");
     println!("reasons reached: {four:?}, {five:?}, {seven:?}");
+}
+
+/// Document 01's dry bank, which pulled harder with each step until the step limit was broken, does all its steps, and nothing moves.
+#[test]
+fn the_dry_bank_lies_still() {
+    let card = Card { columns: 2, rows: 1, dx: 1_000_000, dy: 1_000_000, dt: 100, steps: 100 };
+    let start = [1_000_000, 0, 0, 0, 0, 0, 0, 0, 0];
+    let (mut state, mut scratch) = (start, [1; 9]);
+    let tally = library::run(&mut Rng::new(1), card, &[0, 1_500_000], &mut state, &mut scratch);
+    assert_eq!((tally, state, scratch), (Tally { steps: 100, reason: 0, top: 1_000_000 }, start, [0; 9]));
 }
 
 /// Top is met in the start, in the middle and at the end of runs; it is not the last state's greatest height.

@@ -4,6 +4,7 @@
 //! Each call here has the library's shape: it takes the lists as they are lent, leaves in them what the document says, and returns
 //! what the document says. Numbers are i128, so that no formula can overflow; the tests compare every answer and every element.
 
+mod bank;
 mod grid;
 mod play;
 mod run;
@@ -14,6 +15,7 @@ mod step;
 mod text;
 mod turn;
 
+pub use bank::{pairs, still_water, Pair};
 pub use play::play;
 pub use run::run;
 pub use search::{search, search_lists};

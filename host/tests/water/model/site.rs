@@ -1,5 +1,6 @@
 //! "Units and ranges": the layout of a site's lists, and the first three checks.
 
+use super::bank::Cell;
 use std::ops::RangeInclusive;
 use water::raw::Card;
 
@@ -47,6 +48,10 @@ impl Site<'_> {
 
     pub fn height(&self, i: usize, j: usize) -> i128 {
         self.state[j * self.columns() + i].into()
+    }
+
+    pub fn cell(&self, i: usize, j: usize) -> Cell {
+        Cell { height: self.height(i, j), ground: self.ground(i, j) }
     }
 
     pub fn east(&self, i: usize, j: usize) -> i128 {

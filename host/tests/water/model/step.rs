@@ -1,5 +1,7 @@
-//! "One step": transfers first, then heights, then velocities, which use old transfers and new heights.
+//! "One step": transfers first, then heights, then velocities, which use old transfers and new heights. A dry bank is one by its new
+//! height and the other cell's.
 
+use super::bank::{Cell, Pair};
 use super::grid::Grid;
 use super::site::{check_with, Site, HEIGHTS, VELOCITIES};
 use water::raw::Card;
@@ -54,20 +56,20 @@ impl Moving<'_> {
         Moving { site: *site, east, north, new_heights }
     }
 
-    fn new_surface(&self, i: usize, j: usize) -> i128 {
-        self.new_heights.at(i, j) + self.site.ground(i, j)
+    /// A cell as it is after the step.
+    fn new_cell(&self, i: usize, j: usize) -> Cell {
+        Cell { height: self.new_heights.at(i, j), ground: self.site.ground(i, j) }
     }
 
     /// The inner eastward face i of row j: K is cell (i − 1, j), L is cell (i, j).
     fn east_face(&self, i: usize, j: usize) -> Face {
-        let Moving { site, east, north, new_heights } = self;
+        let Moving { site, east, north, .. } = self;
         Face {
             dt: site.card.dt,
             d: site.card.dx,
             u: site.east(i, j),
             old_sum: site.height(i - 1, j) + site.height(i, j),
-            new_sum: new_heights.at(i - 1, j) + new_heights.at(i, j),
-            rise: self.new_surface(i, j) - self.new_surface(i - 1, j),
+            new: Pair { k: self.new_cell(i - 1, j), l: self.new_cell(i, j) },
             edges: [
                 Edge { out: east.at(i, j) + east.at(i + 1, j), beyond: site.east(i + 1, j) },
                 Edge { out: -(east.at(i, j) + east.at(i - 1, j)), beyond: site.east(i - 1, j) },
@@ -82,14 +84,13 @@ impl Moving<'_> {
 
     /// The inner northward face j of column i: K is cell (i, j − 1), L is cell (i, j).
     fn north_face(&self, i: usize, j: usize) -> Face {
-        let Moving { site, east, north, new_heights } = self;
+        let Moving { site, east, north, .. } = self;
         Face {
             dt: site.card.dt,
             d: site.card.dy,
             u: site.north(i, j),
             old_sum: site.height(i, j - 1) + site.height(i, j),
-            new_sum: new_heights.at(i, j - 1) + new_heights.at(i, j),
-            rise: self.new_surface(i, j) - self.new_surface(i, j - 1),
+            new: Pair { k: self.new_cell(i, j - 1), l: self.new_cell(i, j) },
             edges: [
                 Edge { out: north.at(i, j) + north.at(i, j + 1), beyond: site.north(i, j + 1) },
                 Edge { out: -(north.at(i, j) + north.at(i, j - 1)), beyond: site.north(i, j - 1) },
@@ -130,14 +131,18 @@ struct Face {
     d: u32,
     u: i128,
     old_sum: i128,
-    new_sum: i128,
-    // (hL' + zL) − (hK' + zK)
-    rise: i128,
+    // the two cells after the step
+    new: Pair,
     // ahead and behind along the face's direction, then the two sides
     edges: [Edge; 4],
 }
 
 impl Face {
+    /// H', the new sum.
+    fn new_sum(&self) -> i128 {
+        self.new.k.height + self.new.l.height
+    }
+
     /// H less all flow out.
     fn own_share(&self) -> i128 {
         self.old_sum - self.edges.iter().map(|edge| edge.out.max(0)).sum::<i128>()
@@ -150,12 +155,12 @@ impl Face {
 
     /// H' is the own share and all flow in, the paper's balance (13).
     fn balances(&self) -> bool {
-        self.new_sum == self.own_share() + self.edges.iter().map(Edge::flow_in).sum::<i128>()
+        self.new_sum() == self.own_share() + self.edges.iter().map(Edge::flow_in).sum::<i128>()
     }
 
     /// The carried part of the new velocity, before the slope is taken off: trunc(A/H'), where H' is above 0.
     fn carried_part(&self) -> i128 {
-        self.carried() / self.new_sum
+        self.carried() / self.new_sum()
     }
 
     /// The velocities that count: the face's own, and those of the parallel neighbours that brought water in.
@@ -173,12 +178,18 @@ impl Face {
 
     /// S = trunc(9,806,650·dt·((hL'+zL) − (hK'+zK)) / (1000·d)); Rust's quotient goes towards zero.
     fn slope(&self) -> i128 {
-        GRAVITY * i128::from(self.dt) * self.rise / (1_000 * i128::from(self.d))
+        let rise = self.new.l.surface() - self.new.k.surface();
+        GRAVITY * i128::from(self.dt) * rise / (1_000 * i128::from(self.d))
     }
 
-    /// 0 if H' = 0, otherwise trunc(A/H') − S.
+    /// Where the new velocity is 0 by rule: H' is 0, or one of the two cells is a dry bank to the other.
+    fn stands_still(&self) -> bool {
+        self.new_sum() == 0 || self.new.dry_bank()
+    }
+
+    /// 0 by rule, otherwise trunc(A/H') − S.
     fn new_velocity(&self) -> i128 {
-        if self.new_sum == 0 {
+        if self.stands_still() {
             0
         } else {
             self.carried_part() - self.slope()
@@ -203,11 +214,11 @@ pub struct Carried {
     pub slope: i128,
 }
 
-/// Of each inner face of a site that passes the first three checks, eastward ones first; none where H' is 0.
+/// Of each inner face of a site that passes the first three checks, eastward ones first; none where the new velocity is 0 by rule.
 pub fn carried_parts(site: &Site) -> Vec<Option<Carried>> {
     let carried =
         |face: &Face| Carried { least: face.least(), part: face.carried_part(), greatest: face.greatest(), slope: face.slope() };
-    Moving::of(site).inner_faces().iter().map(|face| (face.new_sum > 0).then(|| carried(face))).collect()
+    Moving::of(site).inner_faces().iter().map(|face| (!face.stands_still()).then(|| carried(face))).collect()
 }
 
 /// One step of a site that passes the first three checks: the next state, or the lowest of 4, 5 and 7 that applies.
@@ -220,7 +231,7 @@ pub fn advance(site: &Site) -> Result<Vec<i32>, u32> {
     for face in moving.inner_faces() {
         assert!(face.own_share() >= 0, "the step limit keeps own shares at or above 0, so that 6 has no input");
         assert!(face.balances(), "H' is the own share and all flow in");
-        if face.new_sum > 0 {
+        if face.new_sum() > 0 {
             let part = face.carried_part();
             assert!(face.least() <= part && part <= face.greatest(), "what is carried stays between what came");
         }

@@ -177,14 +177,19 @@ fn step_with(site: &Wild, place: usize, velocity: i32) -> u32 {
     library::step(&mut Rng::new(place as u64), site.card, &site.ground, &state, &mut vec![0; state.len()])
 }
 
-/// The number of a step of two cells side by side and of each turn of them, u being the velocity between them.
-fn number_of_pair(sides: u32, ground: [i32; 2], heights: [i32; 2], u: i32) -> u32 {
+/// Two cells side by side, u being the velocity between them.
+fn pair(sides: u32, ground: [i32; 2], heights: [i32; 2], u: i32) -> Wild {
     let mut site = Wild::empty(Card { columns: 2, rows: 1, dx: sides, dy: sides, dt: 1_000, steps: 0 });
     let middle = site.east(1, 0);
     site.ground.copy_from_slice(&ground);
     site.state[..2].copy_from_slice(&heights);
     site.state[middle] = u;
-    stepped(&site).0
+    site
+}
+
+/// The number of a step of two cells side by side and of each turn of them.
+fn number_of_pair(sides: u32, ground: [i32; 2], heights: [i32; 2], u: i32) -> u32 {
+    stepped(&pair(sides, ground, heights, u)).0
 }
 
 /// Refusal 5: 1,000 flow in; the surface is level afterwards, so that the velocity is out of the way.
@@ -201,5 +206,37 @@ fn a_new_velocity_on_both_sides() {
     for (rise, number) in [(20_000_000, 0), (20_000_001, 7)] {
         assert_eq!(number_of_pair(9_806_650, [0, rise], [1, 1], 0), number);
         assert_eq!(number_of_pair(9_806_650, [0, -rise], [1, 1], 0), number);
+    }
+}
+
+/// A bank so steep that its slope was refused with 7 is accepted, and its water lies still; 1 µm of water on it, and it is none.
+#[test]
+fn a_steep_bank_is_not_too_fast() {
+    let highest = 50_000_000;
+    for water in [1, 1_000_000, 50_000_000] {
+        let site = pair(100_000, [-highest, highest], [water, 0], 0);
+        assert_eq!(stepped(&site), (0, site.state));
+        assert_eq!(number_of_pair(100_000, [-highest, highest], [water, 1], 0), 7);
+    }
+}
+
+/// Refusal 7 beside a dry cell that is no bank: its ground is so far below the water's surface.
+#[test]
+fn a_new_velocity_beside_a_dry_cell() {
+    for (below, number) in [(20_000_000, 0), (20_000_001, 7)] {
+        assert_eq!(number_of_pair(9_806_650, [below - 1, 0], [1, 0], 0), number);
+    }
+}
+
+/// Beside a bank, steep or level or 1 µm below the water and so none, the other face of that water is refused where it is too fast.
+#[test]
+fn a_new_velocity_beside_a_bank() {
+    for bank in [50_000_000, 1, 0] {
+        for (rise, number) in [(20_000_000, 0), (20_000_001, 7)] {
+            let mut site = Wild::empty(Card { columns: 3, rows: 1, dx: 9_806_650, dy: 9_806_650, dt: 1_000, steps: 0 });
+            site.ground.copy_from_slice(&[bank, 0, rise]);
+            site.state[..3].copy_from_slice(&[0, 1, 1]);
+            assert_eq!(stepped(&site).0, number, "a bank at {bank}");
+        }
     }
 }

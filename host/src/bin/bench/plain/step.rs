@@ -1,5 +1,6 @@
 //! The step and the run. `tide` holds the new heights and what crosses each face, in the state's own layout. One flag says whether a
-//! division is left out where what it would divide is 0; without it each inner face with water divides three times.
+//! division is left out where what it would divide is 0; without it each inner face divides once for what crosses it and, unless it is a
+//! dry bank, twice for its new velocity.
 
 use super::site::{check, speed_fits};
 use water::raw::{Card, Tally};
@@ -151,7 +152,8 @@ fn new_heights(card: &Card, old: &[i32], east: &[i32], north: &[i32], new: &mut 
 struct Face {
     u: i32,
     old_sum: i64,
-    new_sum: i64,
+    new_k: i32,
+    new_l: i32,
     rise: i64,
     flows: [i64; 4],
     beyond: [i32; 4],
@@ -159,7 +161,7 @@ struct Face {
 
 impl Face {
     fn new_velocity<const SKIPS: bool>(&self, force: i64, side: i64) -> i64 {
-        if self.new_sum == 0 {
+        if self.dry_bank() {
             return 0;
         }
         let own_share = self.old_sum - self.flows.iter().map(|&flow| flow.max(0)).sum::<i64>();
@@ -167,7 +169,12 @@ impl Face {
         for (&flow, &velocity) in self.flows.iter().zip(&self.beyond) {
             carried += (-flow).max(0) * i64::from(velocity);
         }
-        quotient::<SKIPS>(carried, self.new_sum) - quotient::<SKIPS>(force * self.rise, side)
+        quotient::<SKIPS>(carried, sum(self.new_k, self.new_l)) - quotient::<SKIPS>(force * self.rise, side)
+    }
+
+    /// A dry cell's surface is its ground, so that it is at or above the other's surface where the rise says so. Of two dry cells one is.
+    fn dry_bank(&self) -> bool {
+        (self.new_k == 0 && self.rise <= 0) || (self.new_l == 0 && self.rise >= 0)
     }
 }
 
@@ -203,7 +210,8 @@ fn eastward<const SKIPS: bool>(card: &Card, ground: &[i32], state: &Parts, tide:
             let face = Face {
                 u: u[i],
                 old_sum: sum(old[i - 1], old[i]),
-                new_sum: sum(new[i - 1], new[i]),
+                new_k: new[i - 1],
+                new_l: new[i],
                 rise: sum(new[i], ground[i]) - sum(new[i - 1], ground[i - 1]),
                 flows: [
                     sum(own[i], own[i + 1]),
@@ -239,7 +247,8 @@ fn northward<const SKIPS: bool>(card: &Card, ground: &[i32], state: &Parts, tide
             let face = Face {
                 u: u[i],
                 old_sum: sum(old_k[i], old_l[i]),
-                new_sum: sum(new_k[i], new_l[i]),
+                new_k: new_k[i],
+                new_l: new_l[i],
                 rise: sum(new_l[i], ground_l[i]) - sum(new_k[i], ground_k[i]),
                 flows: [
                     sum(own[i], ahead[i]),
