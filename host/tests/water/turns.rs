@@ -7,12 +7,13 @@ use water::calls;
 
 #[test]
 fn turned_runs() {
-    let mut stopped = 0;
+    let (mut stopped, mut with_banks) = (0, 0);
     trials("turns", 4_000, |rng| {
         let mut site = wild::good(rng);
         site.card.steps = rng.below(25) as u32;
         let end = ended(&site);
         stopped += u64::from(end.0.reason.is_some());
+        with_banks += u64::from(end.0.steps > 0 && site.banks_in(&end.1) > 0);
         for turn in &TURNS {
             let turned_end = ended(&site.turned(turn));
             assert_eq!(turned_end.0, end.0, "{}: the same tally", turn.name);
@@ -20,8 +21,8 @@ fn turned_runs() {
             assert!(turned_end.1 == expected, "{}: the end state turned", turn.name);
         }
     });
-    println!("turns: {stopped} of the runs were stopped on their way");
-    assert!(single() || stopped > 100);
+    println!("turns: {stopped} of the runs were stopped on their way, {with_banks} ended with dry banks beside water");
+    assert!(single() || (stopped > 100 && with_banks > 400));
 }
 
 /// The tally and the end state of the library's run.

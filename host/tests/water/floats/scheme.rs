@@ -1,4 +1,4 @@
-//! Document 002's scheme (7b) to (7d) on doubles, in the units of document 01.
+//! Document 002's scheme (7b) to (7d) on doubles, in the units of document 01, with document 02's dry banks.
 
 use water::raw::Card;
 
@@ -22,6 +22,11 @@ impl Water {
         let (heights, velocities) = doubles.split_at(columns * rows);
         let (east, north) = velocities.split_at((columns + 1) * rows);
         Water { columns, rows, heights: heights.to_vec(), east: east.to_vec(), north: north.to_vec() }
+    }
+
+    /// All numbers, in the order of a state.
+    pub fn all(&self) -> Vec<f64> {
+        [&self.heights[..], &self.east, &self.north].concat()
     }
 
     fn height(&self, i: usize, j: usize) -> f64 {
@@ -82,6 +87,13 @@ fn new_velocity(u: f64, old_sum: f64, new_sum: f64, flows: [(f64, f64); 4], slop
     momentum / new_sum - slope
 }
 
+/// The dry bank of the face between cells k and l, if one of them is one, and the cell beside it; document 02's [2]. A cell that a step
+/// empties may be left with a hair less than nothing.
+pub fn dry_bank(ground: &[i32], heights: &[f64], k: usize, l: usize) -> Option<(usize, usize)> {
+    let surface = |cell: usize| heights[cell] + f64::from(ground[cell]);
+    [(k, l), (l, k)].into_iter().find(|&(bank, beside)| heights[bank] <= 0.0 && surface(beside) <= f64::from(ground[bank]))
+}
+
 /// One step.
 pub fn step(card: &Card, ground: &[i32], water: &Water) -> Water {
     let (columns, rows) = (water.columns, water.rows);
@@ -98,10 +110,14 @@ pub fn step(card: &Card, ground: &[i32], water: &Water) -> Water {
     }
     let surface = |i: usize, j: usize| next.heights[j * columns + i] + f64::from(ground[j * columns + i]);
     let new_sum = |a: usize, b: usize| next.heights[a] + next.heights[b];
+    let unless_bank = |k: usize, l: usize, velocity: f64| match dry_bank(ground, &next.heights, k, l) {
+        None => velocity,
+        Some(_) => 0.0,
+    };
     let (mut new_east, mut new_north) = (water.east.clone(), water.north.clone());
     for j in 0..rows {
         for i in 1..columns {
-            let mass = new_sum(j * columns + i - 1, j * columns + i);
+            let (k, l) = (j * columns + i - 1, j * columns + i);
             let beside = |row: usize| if row < rows { water.east(i, row) } else { 0.0 };
             let flows = [
                 (east_at(i, j) + east_at(i + 1, j), water.east(i + 1, j)),
@@ -111,12 +127,13 @@ pub fn step(card: &Card, ground: &[i32], water: &Water) -> Water {
             ];
             let slope = GRAVITY * seconds * (surface(i, j) - surface(i - 1, j)) / f64::from(card.dx);
             let old_sum = water.height(i - 1, j) + water.height(i, j);
-            new_east[j * (columns + 1) + i] = new_velocity(water.east(i, j), old_sum, mass, flows, slope);
+            let velocity = new_velocity(water.east(i, j), old_sum, new_sum(k, l), flows, slope);
+            new_east[j * (columns + 1) + i] = unless_bank(k, l, velocity);
         }
     }
     for j in 1..rows {
         for i in 0..columns {
-            let mass = new_sum((j - 1) * columns + i, j * columns + i);
+            let (k, l) = ((j - 1) * columns + i, j * columns + i);
             let beside = |column: usize| if column < columns { water.north(column, j) } else { 0.0 };
             let flows = [
                 (north_at(i, j) + north_at(i, j + 1), water.north(i, j + 1)),
@@ -126,7 +143,8 @@ pub fn step(card: &Card, ground: &[i32], water: &Water) -> Water {
             ];
             let slope = GRAVITY * seconds * (surface(i, j) - surface(i, j - 1)) / f64::from(card.dy);
             let old_sum = water.height(i, j - 1) + water.height(i, j);
-            new_north[j * columns + i] = new_velocity(water.north(i, j), old_sum, mass, flows, slope);
+            let velocity = new_velocity(water.north(i, j), old_sum, new_sum(k, l), flows, slope);
+            new_north[j * columns + i] = unless_bank(k, l, velocity);
         }
     }
     Water { east: new_east, north: new_north, ..next }

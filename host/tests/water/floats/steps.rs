@@ -14,14 +14,21 @@
 //! - Doubles have 53 bits; the largest number here, A below 10^16, is off by a few units, and the quotient by 10^-6 at most.
 //!
 //! Where the library's H' is 0 its velocity is 0 by rule, while the doubles may keep up to 6 µm of water there: not compared.
+//!
+//! On a dry bank it is 0 by rule too. Both programs look for banks by their own new heights, which differ by less than 4 µm: where one
+//! has a bank, the other has a bank as well, or less than 4 µm of water on it, or a surface beside it that is less than 4 µm above its
+//! ground. Where both have one, both velocities must be 0; where only one has, that much is asserted, and the velocities are not compared.
 
-use super::scheme::{leaving, step, Water, GRAVITY};
+use super::scheme::{dry_bank, leaving, step, Water, GRAVITY};
 use crate::rng::Rng;
-use crate::trials::trials;
+use crate::trials::{single, trials};
 use crate::wild::{self, Wild};
 use water::{calls, Refusal};
 
-/// The largest differences, and how many numbers were compared.
+/// A new height differs by less than this, and by what doubles lose.
+const HEIGHT_OFF: f64 = 4.0 + 1e-6;
+
+/// The largest differences, and how many numbers and banks were compared.
 #[derive(Default)]
 struct Seen {
     height: f64,
@@ -31,6 +38,38 @@ struct Seen {
     heights: u64,
     velocities: u64,
     dry: u64,
+    // dry banks beside water by both programs, and by one of them only
+    banks: u64,
+    by_one: u64,
+}
+
+impl Seen {
+    fn compare_height(&mut self, whole: f64, double: f64) {
+        let off = (whole - double).abs();
+        assert!(off < HEIGHT_OFF, "a height is {whole}, and {double} in doubles");
+        self.height = self.height.max(off);
+        self.heights += 1;
+    }
+
+    fn compare_velocity(&mut self, whole: f64, double: f64, allowed: f64) {
+        let off = (whole - double).abs();
+        assert!(off < allowed, "a velocity is {whole}, and {double} in doubles; {allowed} is allowed");
+        self.velocity = self.velocity.max(off);
+        self.share = self.share.max(off / allowed);
+        self.velocities += 1;
+    }
+}
+
+/// How many of the two programs have a dry bank on the face between k and l. Where one of them has, the other nearly does.
+fn programs_with_bank(ground: &[i32], programs: [&Water; 2], k: usize, l: usize) -> usize {
+    let banks = programs.map(|water| dry_bank(ground, &water.heights, k, l));
+    for (bank, beside) in banks.into_iter().flatten() {
+        for Water { heights, .. } in programs {
+            let above = heights[beside] + f64::from(ground[beside]) - f64::from(ground[bank]);
+            assert!(heights[bank] < HEIGHT_OFF && above < HEIGHT_OFF, "{} µm on a bank, {above} above it", heights[bank]);
+        }
+    }
+    banks.into_iter().flatten().count()
 }
 
 fn compare_step(site: &Wild, next: &[i32], seen: &mut Seen) {
@@ -38,38 +77,32 @@ fn compare_step(site: &Wild, next: &[i32], seen: &mut Seen) {
     let ours = Water::of(&site.card, next);
     let doubles = step(&site.card, &site.ground, &before);
     for (&whole, &double) in ours.heights.iter().zip(&doubles.heights) {
-        let off = (whole - double).abs();
-        assert!(off < 4.0 + 1e-6, "a height is {whole}, and {double} in doubles");
-        seen.height = seen.height.max(off);
-        seen.heights += 1;
+        seen.compare_height(whole, double);
     }
     let fastest = before.east.iter().chain(&before.north).fold(0.0, |most: f64, velocity| most.max(velocity.abs()));
     let seconds = f64::from(site.card.dt) / 1_000.0;
-    let columns = site.card.columns as usize;
-    // H' as the library has it, 0 on walls
-    let east_sum = |face: usize| match (face % (columns + 1), face / (columns + 1)) {
-        (0, _) => 0.0,
-        (i, _) if i == columns => 0.0,
-        (i, j) => ours.heights[j * columns + i - 1] + ours.heights[j * columns + i],
-    };
-    let north_sum = |face: usize| match face {
-        _ if face < columns || face >= ours.heights.len() => 0.0,
-        _ => ours.heights[face - columns] + ours.heights[face],
-    };
-    let eastward = ours.east.iter().zip(&doubles.east).enumerate().map(|(k, (a, b))| (*a, *b, east_sum(k), site.card.dx));
-    let northward = ours.north.iter().zip(&doubles.north).enumerate().map(|(k, (a, b))| (*a, *b, north_sum(k), site.card.dy));
-    for (whole, double, sum, side) in eastward.chain(northward) {
+    let (all_ours, all_doubles) = (ours.all(), doubles.all());
+    for (place, (k, l)) in site.inner_faces().into_iter().zip(site.cells_beside()) {
+        let (whole, double) = (all_ours[place], all_doubles[place]);
+        // H' as the library has it
+        let sum = ours.heights[k] + ours.heights[l];
         if sum == 0.0 {
-            assert_eq!(whole, 0.0, "walls and dry faces stand still");
+            assert_eq!(whole, 0.0, "dry faces stand still");
             seen.dry += 1;
             continue;
         }
-        let allowed = 14.0 * fastest / sum + 1.0 + 1.0 + 8.0 * GRAVITY * seconds / f64::from(side) + 1e-3;
-        let off = (whole - double).abs();
-        assert!(off < allowed, "a velocity is {whole}, and {double} in doubles; {allowed} is allowed, H' is {sum}");
-        seen.velocity = seen.velocity.max(off);
-        seen.share = seen.share.max(off / allowed);
-        seen.velocities += 1;
+        match programs_with_bank(&site.ground, [&ours, &doubles], k, l) {
+            0 => {
+                let side = if place < site.north(0, 0) { site.card.dx } else { site.card.dy };
+                let allowed = 14.0 * fastest / sum + 1.0 + 1.0 + 8.0 * GRAVITY * seconds / f64::from(side) + 1e-3;
+                seen.compare_velocity(whole, double, allowed);
+            }
+            1 => seen.by_one += 1,
+            _ => {
+                assert_eq!((whole, double), (0.0, 0.0), "dry banks stand still");
+                seen.banks += 1;
+            }
+        }
     }
 }
 
@@ -93,7 +126,7 @@ fn random_sites() {
         follow(site, 8, &mut seen);
     });
     report("random sites", &seen);
-    assert!(seen.velocities > 20_000 || crate::trials::single());
+    assert!(single() || (seen.velocities > 20_000 && seen.banks > 1_000 && seen.banks > seen.by_one));
 }
 
 /// Refusal 4 is given exactly where more than the whole of some cell would leave it; nearer to the whole than 10^-9, doubles cannot tell.
@@ -111,7 +144,7 @@ fn the_step_limit() {
         }
     });
     println!("floats, the step limit: {} kept, {} broken", told[0], told[1]);
-    assert!(told.iter().all(|&times| times > 200) || crate::trials::single());
+    assert!(single() || told.iter().all(|&times| times > 200));
 }
 
 /// A metre and more of water everywhere: here the roundings are all that is left, a few µm and µm/s.
@@ -132,8 +165,9 @@ fn deep_water() {
 }
 
 fn report(what: &str, seen: &Seen) {
-    let Seen { height, velocity, share, heights, velocities, dry } = seen;
+    let Seen { height, velocity, share, heights, velocities, dry, banks, by_one } = seen;
     println!("floats, {what}: {heights} heights off by at most {height:.2} µm");
-    println!("floats, {what}: {velocities} velocities off by at most {velocity:.2} µm/s, {dry} walls and dry faces left out");
+    println!("floats, {what}: {velocities} velocities off by at most {velocity:.2} µm/s, {dry} dry faces left out");
+    println!("floats, {what}: {banks} dry banks by both programs, {by_one} by one of them left out");
     println!("floats, {what}: at most {:.0} % of what the roundings allow (a thin film of water is allowed much)", 100.0 * share);
 }

@@ -1,7 +1,8 @@
 //! What is carried stays between what came: with the slope put back, a new velocity lies between the least and the greatest of the
-//! face's own velocity and of its parallel neighbours' that brought water in, wherever there is water afterwards. A wall is a neighbour
-//! with velocity 0. The model asserts it of every face of every step under the limit, those too that are refused with 5 or 7; here it is
-//! said of the library's own velocities, with the faces where an end is met.
+//! face's own velocity and of its parallel neighbours' that brought water in, wherever there is water afterwards and no dry bank, where
+//! the new velocity is 0 and has no carried part. A wall is a neighbour with velocity 0. The model asserts it of every face of every step
+//! under the limit, those too that are refused with 5 or 7; here it is said of the library's own velocities, with the faces where an end
+//! is met.
 
 use super::stepped;
 use crate::library;
@@ -10,23 +11,32 @@ use crate::trials::{single, trials};
 use crate::wild::{self, Wild};
 use water::raw::Card;
 
-/// The place of each inner face in the state, with what is carried over it.
-fn faces(site: &Wild) -> Vec<(usize, Carried)> {
-    let carried = site.inner_faces().into_iter().zip(model::carried_parts(&site.site()));
-    carried.filter_map(|(place, carried)| Some((place, carried?))).collect()
+/// The place of each inner face in the state, with what is carried over it, if anything can be.
+fn faces(site: &Wild) -> Vec<(usize, Option<Carried>)> {
+    site.inner_faces().into_iter().zip(model::carried_parts(&site.site())).collect()
 }
 
 #[test]
 fn random_steps() {
     // faces that meet one end of two, those strictly between, and those where all that counts is alike, so that both ends are met
     let (mut met_least, mut met_greatest, mut between, mut alike) = (0, 0, 0, 0);
+    let mut banks = 0;
     trials("carried", 12_000, |rng| {
         let site = wild::good(rng);
         let mut next = vec![0; site.state.len()];
         if library::step(rng, site.card, &site.ground, &site.state, &mut next) != 0 {
             return;
         }
-        for (place, Carried { least, part, greatest, slope }) in faces(&site) {
+        for ((place, carried), cells) in faces(&site).into_iter().zip(site.pairs_in(&next)) {
+            let Carried { least, part, greatest, slope } = match carried {
+                Some(carried) => carried,
+                None => {
+                    assert_eq!(next[place], 0, "where nothing can be carried, nothing moves");
+                    banks += u64::from(cells.bank_beside_water());
+                    continue;
+                }
+            };
+            assert!(!cells.dry_bank(), "on a dry bank nothing is carried");
             let put_back = i128::from(next[place]) + slope;
             assert_eq!(put_back, part);
             assert!(least <= put_back && put_back <= greatest);
@@ -40,9 +50,10 @@ fn random_steps() {
         }
     });
     println!(
-        "carried: {between} faces between, {met_least} at the least, {met_greatest} at the greatest, {alike} of one velocity"
+        "carried: {between} faces between, {met_least} at the least, {met_greatest} at the greatest, {alike} of one velocity, \
+         {banks} dry banks beside water"
     );
-    assert!(single() || (met_least > 1_000 && met_greatest > 1_000 && between > 10_000 && alike > 1_000));
+    assert!(single() || (met_least > 1_000 && met_greatest > 1_000 && between > 10_000 && alike > 1_000 && banks > 1_000));
 }
 
 /// The velocity of the first inner eastward face after a step, slope put back, and between what it stays.
@@ -50,6 +61,7 @@ fn first_of(site: &Wild) -> (i128, [i128; 2]) {
     let (number, next) = stepped(site);
     assert_eq!(number, 0);
     let (place, carried) = faces(site).swap_remove(0);
+    let carried = carried.expect("no dry bank");
     (i128::from(next[place]) + carried.slope, [carried.least, carried.greatest])
 }
 

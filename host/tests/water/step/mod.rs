@@ -1,6 +1,7 @@
 //! The step: random and hostile sites, each refusal at its boundary, which faces count in the step limit, own shares of which nothing is
-//! left, what is carried between what came, still rows, and the sizes at which it works in another way.
+//! left, what is carried between what came, dry banks, still rows, and the sizes at which it works in another way.
 
+mod banks;
 mod boundary;
 mod carried;
 mod limit;

@@ -18,7 +18,7 @@ fn still(rng: &mut Rng) -> Wild {
     let card = Card { columns, rows, dx: 1_000_000, dy: 2_000_000, dt: rng.pick(&[1, 20, 100]), steps: rng.below(4) as u32 };
     let mut site = Wild::empty(card);
     let (dry, level) = (rng.pick(&[0, 30, 90, 100]), rng.percent(50));
-    let steep = if rng.percent(10) { 50_000_000 } else { 300_000 };
+    let steep = if rng.percent(25) { 50_000_000 } else { 300_000 };
     for k in 0..site.ground.len() {
         site.ground[k] = if rng.percent(60) { 0 } else { rng.between(-steep, steep) as i32 };
         let surface = if level { 1_000_000 } else { rng.between(0, 1_000_000) };

@@ -1,7 +1,7 @@
 //! Sites on the brink of refusals 4, 5 and 7: exactly within, or beyond by as little as the numbers allow; and on the brink of a negative
 //! own share, which only a site refused with 4 goes beyond.
 
-use super::{card, Wild, HEIGHT, SPEED};
+use super::{card, whole, Wild, HEIGHT, SPEED};
 use crate::model;
 use crate::rng::Rng;
 use water::raw::Card;
@@ -57,17 +57,16 @@ pub fn of_limit(rng: &mut Rng) -> Wild {
 /// that the own share of the face between them has.
 pub fn of_share(rng: &mut Rng) -> Wild {
     let mut card = quick(rng, 4, 3);
-    // sides, a time step and heights with which thousandths of the water are whole numbers
-    let whole = rng.percent(50);
-    if whole {
-        let mut side = || 1_000 * rng.between(100, 4_000) as u32;
-        card = Card { dx: side(), dy: side(), dt: rng.pick(&[200, 250, 500, 1_000]), ..card };
+    // heights, too, with which thousandths of the water are whole numbers
+    let in_thousandths = rng.percent(50);
+    if in_thousandths {
+        card = whole(rng, card);
     }
     let (dx, dy, dt) = (i64::from(card.dx), i64::from(card.dy), i64::from(card.dt));
     let mut site = Wild::empty(card);
     site.state[..12].fill(rng.pick(&[0, 1, 1_000_000]));
     for (i, outer, way) in [(1, 1, -1), (2, 3, 1)] {
-        let (height, along, south, north) = if whole {
+        let (height, along, south, north) = if in_thousandths {
             let along = rng.between(0, 1_000);
             let south = rng.between(0, 1_000 - along);
             let north = 1_000 - along - south;

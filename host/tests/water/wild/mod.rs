@@ -1,9 +1,15 @@
-//! Random sites: good ones of every temper, sites on the brink of a refusal, and sites that were hurt.
+//! Random sites: good ones of every temper, ponds and shores, sites on the brink of a refusal, and sites that were hurt.
 
 mod brink;
 mod hurt;
+mod pond;
+mod shore;
+mod site;
 
 pub use brink::of_share;
+pub use pond::{pond, with_shore};
+pub use shore::{sloshing, terraces};
+pub use site::Wild;
 
 use crate::model::{self, TURNS};
 use crate::rng::Rng;
@@ -13,52 +19,15 @@ pub const HEIGHT: i64 = 50_000_000;
 pub const SPEED: i64 = 20_000_000;
 pub const SIDE: (i64, i64) = (100_000, 20_000_000);
 
-#[derive(Clone, Debug, PartialEq)]
-pub struct Wild {
-    pub card: Card,
-    pub ground: Vec<i32>,
-    pub state: Vec<i32>,
-}
-
-impl Wild {
-    pub fn site(&self) -> model::Site<'_> {
-        model::Site { card: self.card, ground: &self.ground, state: &self.state }
-    }
-
-    /// A site with flat ground 0 and no water.
-    pub fn empty(card: Card) -> Wild {
-        Wild { card, ground: vec![0; model::cells(&card)], state: vec![0; model::state_length(&card)] }
-    }
-
-    /// The place in the state of eastward face i of row j, and of northward face j of column i.
-    pub fn east(&self, i: u32, j: u32) -> usize {
-        model::cells(&self.card) + (j * (self.card.columns + 1) + i) as usize
-    }
-
-    pub fn north(&self, i: u32, j: u32) -> usize {
-        model::cells(&self.card) + ((self.card.columns + 1) * self.card.rows + j * self.card.columns + i) as usize
-    }
-
-    /// The places in the state of the velocities that may be other than 0, eastward ones first.
-    pub fn inner_faces(&self) -> Vec<usize> {
-        let Card { columns, rows, .. } = self.card;
-        let eastward = (0..rows).flat_map(|j| (1..columns).map(move |i| self.east(i, j)));
-        let northward = (1..rows).flat_map(|j| (0..columns).map(move |i| self.north(i, j)));
-        eastward.chain(northward).collect()
-    }
-
-    pub fn turned(&self, turn: &model::Turn) -> Wild {
-        Wild { card: (turn.card)(self.card), ground: (turn.ground)(&self.site()), state: (turn.state)(&self.site()) }
-    }
-}
-
 /// A site that passes the first three checks.
 pub fn good(rng: &mut Rng) -> Wild {
-    let mut site = match rng.below(16) {
+    let mut site = match rng.below(18) {
         0 => brink::of_limit(rng),
         1 => brink::of_height(rng),
         2 => brink::of_speed(rng),
         3 => brink::of_share(rng),
+        4 => shore::sloshing(rng),
+        5 => shore::terraces(rng),
         _ => {
             let card = card(rng);
             tempered(rng, card)
@@ -123,6 +92,12 @@ pub fn card(rng: &mut Rng) -> Card {
         _ => rng.scaled(1, 1_000) as u32,
     };
     Card { columns, rows, dx, dy, dt, steps: rng.below(13) as u32 }
+}
+
+/// The card with sides and a time step with which a velocity that empties a cell in one step is a whole number in range.
+fn whole(rng: &mut Rng, card: Card) -> Card {
+    let mut side = || 1_000 * rng.between(100, 4_000) as u32;
+    Card { dx: side(), dy: side(), dt: rng.pick(&[200, 250, 500, 1_000]), ..card }
 }
 
 // ---- good sites
