@@ -19,6 +19,7 @@ mod floats;
 mod layout;
 mod numbers;
 mod player;
+mod ponds;
 mod run;
 mod search;
 mod sheet;

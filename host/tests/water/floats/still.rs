@@ -1,9 +1,24 @@
-//! Document 002's lake at rest (its Lemma 2): a level surface over any ground, all wet, stays as it is, to the last bit in both programs.
+//! Document 002's lake at rest (its Lemma 2): a level surface over any ground, all wet, stays as it is, to the last bit in both programs;
+//! and so does still water with shores, as document 02's [2] has it.
 
 use super::scheme::{step, Water};
 use crate::rng::Rng;
-use crate::wild::Wild;
+use crate::wild::{self, Wild};
 use water::{Card, Site};
+
+/// As it was after as many steps as its card wants, and the doubles after 100.
+fn assert_lies_still(what: &str, start: &Wild) {
+    let mut site = Site::new(start.card, start.ground.clone(), start.state.clone()).unwrap();
+    let tally = site.run();
+    assert_eq!((tally.steps, tally.reason), (start.card.steps, None));
+    let off = site.state().iter().zip(&start.state).map(|(a, b)| (a - b).abs()).max().unwrap();
+
+    let rest = Water::of(&start.card, &start.state);
+    let water = (0..100).fold(rest.clone(), |water, _| step(&start.card, &start.ground, &water));
+    let float_off = water.all().iter().zip(&rest.all()).fold(0.0, |most: f64, (a, b)| most.max((a - b).abs()));
+    println!("floats, {what}: off by {off} µm after {} steps, the doubles by {float_off} after 100", tally.steps);
+    assert_eq!((off, float_off), (0, 0.0));
+}
 
 #[test]
 fn a_lake_at_rest() {
@@ -14,18 +29,10 @@ fn a_lake_at_rest() {
         lake.ground[k] = rng.between(-20_000_000, 9_999_999) as i32;
         lake.state[k] = 10_000_000 - lake.ground[k];
     }
-    let mut site = Site::new(card, lake.ground.clone(), lake.state.clone()).unwrap();
-    let tally = site.run();
-    assert_eq!((tally.steps, tally.reason), (500, None));
-    let off = site.state().iter().zip(&lake.state).map(|(a, b)| (a - b).abs()).max().unwrap();
+    assert_lies_still("lake at rest", &lake);
+}
 
-    let mut water = Water::of(&card, &lake.state);
-    for _ in 0..100 {
-        water = step(&card, &lake.ground, &water);
-    }
-    let rest = Water::of(&card, &lake.state);
-    let all = |water: &Water| [&water.heights[..], &water.east, &water.north].concat();
-    let float_off = all(&water).iter().zip(&all(&rest)).fold(0.0, |most: f64, (a, b)| most.max((a - b).abs()));
-    println!("floats, lake at rest: off by {off} µm after 500 steps, the doubles by {float_off} after 100");
-    assert_eq!((off, float_off), (0, 0.0));
+#[test]
+fn a_pond_with_a_shore() {
+    assert_lies_still("pond with a shore", &wild::with_shore());
 }
