@@ -1,18 +1,25 @@
-//! The benchmark's plain Rust held to the model, so that the ratio compares the same work, refusals and all.
+//! The benchmark's plain Rust held to the model, so that the ratio compares the same work, refusals and all; and its sites to what they
+//! are said to be.
 
 #[path = "../../src/bin/bench/plain/mod.rs"]
 mod plain;
 
+// the benchmark alone asks for chambers
+#[allow(dead_code)]
+#[path = "../../src/bin/bench/sites.rs"]
+mod sites;
+
 use crate::given::Given;
 use crate::lent::room;
 use crate::model;
-use crate::trials::trials;
-use crate::wild;
+use crate::trials::{single, trials};
+use crate::wild::{self, Wild};
+use sites::Water;
 use water::raw::{Chamber, Window};
 
 #[test]
 fn steps_and_runs() {
-    let mut given = Given::default();
+    let (mut given, mut banks) = (Given::default(), 0);
     let (mut dividing, mut skipping) = (plain::Plain::<false>::new(), plain::Plain::<true>::new());
     trials("plain steps", 6_000, |rng| {
         let site = wild::any(rng);
@@ -23,6 +30,7 @@ fn steps_and_runs() {
         assert_eq!(skipping.step(site.card, &site.ground, &site.state, &mut skipped), number);
         assert!(next == expected && skipped == expected);
         given.count(number);
+        banks += if number == 0 { site.banks_in(&next) } else { 0 };
         let lists = (site.state.clone(), room(rng, site.state.len()));
         let (mut divided, mut skipped, mut expected) = (lists.clone(), lists.clone(), lists);
         let tally = model::run(site.card, &site.ground, &mut expected.0, &mut expected.1);
@@ -31,6 +39,23 @@ fn steps_and_runs() {
         assert!(divided == expected && skipped == expected);
     });
     given.assert_often("plain steps", &[0, 1, 2, 3, 4, 5, 7], 60);
+    println!("plain steps: {banks} faces had a dry bank beside water");
+    assert!(single() || banks > 2_000);
+}
+
+#[test]
+fn measured_sites() {
+    for size in [8, 16, 128] {
+        for water in Water::ALL {
+            let sites::Measured { card, ground, state } = sites::site(size, water);
+            let site = Wild { card, ground, state };
+            let still = !matches!(water, Water::Puddle | Water::Moving);
+            assert_eq!(model::still_water(&site.site()), still, "{}", water.name());
+            let (banks, faces) = (site.banks_in(&site.state), site.inner_faces().len());
+            let half = (2 * banks).abs_diff(faces) * 5 < faces;
+            assert_eq!(half, matches!(water, Water::Pond), "{} of {size}: {banks} dry banks on {faces} faces", water.name());
+        }
+    }
 }
 
 #[test]

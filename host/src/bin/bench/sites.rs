@@ -15,6 +15,9 @@ pub enum Water {
     Dry,
     /// A level lake over uneven ground, at rest.
     Lake,
+    /// A level pond with shores: uneven ground in squares of 2×2 cells, by turns a hollow full of water and a dry bank, so that half of all
+    /// faces have water on one side and a bank on the other. Nothing moves.
+    Pond,
     /// Dry level ground, and in its south-west a puddle that moves, an eighth of the site's side long and wide and no less than two cells:
     /// 16×16 cells on 128×128. No row has it in its middle, where the library looks first for a row that moves.
     Puddle,
@@ -23,12 +26,13 @@ pub enum Water {
 }
 
 impl Water {
-    pub const ALL: [Water; 4] = [Water::Dry, Water::Lake, Water::Puddle, Water::Moving];
+    pub const ALL: [Water; 5] = [Water::Dry, Water::Lake, Water::Pond, Water::Puddle, Water::Moving];
 
     pub fn name(self) -> &'static str {
         match self {
             Water::Dry => "dry",
             Water::Lake => "lake at rest",
+            Water::Pond => "pond with shores",
             Water::Puddle => "puddle",
             Water::Moving => "moving",
         }
@@ -40,6 +44,7 @@ impl Water {
         match self {
             Water::Dry => false,
             Water::Lake | Water::Moving => true,
+            Water::Pond => (column / 2 + row / 2) % 2 == 0,
             Water::Puddle => inside(column) && inside(row),
         }
     }
@@ -50,15 +55,23 @@ pub fn site(size: u32, water: Water) -> Measured {
     let card = Card { columns: size, rows: size, dx: 1_000_000, dy: 1_000_000, dt: 20, steps: 0 };
     let (cells, side) = (card.cells(), size as usize);
     let (level, moving) = match water {
-        Water::Dry => (0, false),
+        Water::Dry | Water::Pond => (0, false),
         Water::Lake => (2_000_000, false),
         Water::Puddle => (300_000, true),
         Water::Moving => (2_000_000, true),
     };
+    let wet = |k: usize| water.wet(side, k % side, k / side);
     let uneven = |k: usize| ((k * 7_919) % 400_000) as i32 - 200_000;
-    let ground: Vec<i32> = (0..cells).map(|k| if matches!(water, Water::Puddle) { 0 } else { uneven(k) }).collect();
+    let ground = |k: usize| match water {
+        Water::Puddle => 0,
+        // hollows below the level, banks at it or above
+        Water::Pond if wet(k) => uneven(k) - 200_000,
+        Water::Pond => uneven(k) + 200_000,
+        _ => uneven(k),
+    };
+    let ground: Vec<i32> = (0..cells).map(ground).collect();
     let mut state = vec![0; card.state_length()];
-    for k in (0..cells).filter(|k| water.wet(side, k % side, k / side)) {
+    for k in (0..cells).filter(|&k| wet(k)) {
         let wave = if moving { ((k % side) * 5_003 + (k / side) * 3_001) % 100_000 } else { 0 };
         state[k] = level - ground[k] + wave as i32;
     }
