@@ -13,6 +13,10 @@
  * its east one if that points east, each without its sign, and sn the same for south and north: what leaves a cell in one step is
  * at most what it holds. A face that lets water into a cell does not count there, so water may pass through.
  *
+ * Dry banks: where one of a face's cells is dry after a step and its ground is at or above the other's new surface (height plus
+ * ground), the new velocity is 0. So still water with a shore stays as it is: all velocities 0, one surface over neighbouring wet
+ * cells, and the ground of each dry cell at or above the surface of its wet neighbours.
+ *
  * Lists: rows run south to north, and within a row west to east. Ground is columns*rows words. A state is columns*rows heights,
  * then (columns+1)*rows eastward velocities, then columns*(rows+1) northward velocities. Micrometres and micrometres a second.
  *

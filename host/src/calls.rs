@@ -23,7 +23,8 @@ fn done<T>(number: u32, needed: usize, answer: T) -> Result<T, Refusal> {
     }
 }
 
-/// One step: fills `next` from `ground` and `state`.
+/// One step: fills `next` from `ground` and `state`. Where one of a face's cells is dry after it and its ground is at or above the other's
+/// new surface, a dry bank, the new velocity is 0.
 ///
 /// ```
 /// use water::{calls, Card, Refusal};
@@ -32,6 +33,10 @@ fn done<T>(number: u32, needed: usize, answer: T) -> Result<T, Refusal> {
 /// let mut next = [0; 9];
 /// calls::step(card, &[0, 0], &still, &mut next).unwrap();
 /// assert_eq!(next, [2_000_000, 1_000_000, 0, 980_665, 0, 0, 0, 0, 0]);
+///
+/// let pond = [1_000_000, 0, 0, 0, 0, 0, 0, 0, 0]; // beside a bank 50 cm above it
+/// calls::step(card, &[0, 1_500_000], &pond, &mut next).unwrap();
+/// assert_eq!(next, pond);
 ///
 /// let mut short = [7; 8];
 /// assert_eq!(calls::step(card, &[0, 0], &still, &mut short), Err(Refusal::Length));
