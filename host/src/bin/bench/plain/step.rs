@@ -161,7 +161,8 @@ struct Face {
 
 impl Face {
     fn new_velocity<const SKIPS: bool>(&self, force: i64, side: i64) -> i64 {
-        if self.dry_bank() {
+        let new_sum = sum(self.new_k, self.new_l);
+        if new_sum == 0 || self.dry_bank() {
             return 0;
         }
         let own_share = self.old_sum - self.flows.iter().map(|&flow| flow.max(0)).sum::<i64>();
@@ -169,12 +170,14 @@ impl Face {
         for (&flow, &velocity) in self.flows.iter().zip(&self.beyond) {
             carried += (-flow).max(0) * i64::from(velocity);
         }
-        quotient::<SKIPS>(carried, sum(self.new_k, self.new_l)) - quotient::<SKIPS>(force * self.rise, side)
+        quotient::<SKIPS>(carried, new_sum) - quotient::<SKIPS>(force * self.rise, side)
     }
 
-    /// A dry cell's surface is its ground, so that it is at or above the other's surface where the rise says so. Of two dry cells one is.
+    /// A dry cell's surface is its ground: the rise says whether that is at or above the other's surface. Most faces have no dry cell, and
+    /// one test is enough for them.
     fn dry_bank(&self) -> bool {
-        (self.new_k == 0 && self.rise <= 0) || (self.new_l == 0 && self.rise >= 0)
+        let (k_dry, l_dry) = (self.new_k == 0, self.new_l == 0);
+        (k_dry || l_dry) && ((k_dry && self.rise <= 0) || (l_dry && self.rise >= 0))
     }
 }
 
