@@ -24,6 +24,18 @@ fn step_pair(ground: [i32; 2], heights: [i32; 2], middle: i32) -> Result<Vec<i32
     }
 }
 
+/// A state of the 3×1 site: three heights and the two inner velocities.
+fn three(heights: [i32; 3], first: i32, second: i32) -> Vec<i32> {
+    [&heights[..], &[0, first, second, 0], &[0; 6]].concat()
+}
+
+/// One accepted step of the 3×1 site, which the model must agree with.
+fn step_three(ground: [i32; 3], state: &[i32]) -> Vec<i32> {
+    let mut next = vec![-7; 13];
+    assert_eq!(library::step(&mut Rng::new(1), Card { columns: 3, ..CARD }, &ground, state, &mut next), 0);
+    next
+}
+
 #[test]
 fn two_steps_from_still() {
     assert_eq!(step_pair([0, 0], [2_000_000, 1_000_000], 0), Ok(pair([2_000_000, 1_000_000], 980_665)));
@@ -39,12 +51,8 @@ fn the_step_limit() {
 /// Document 02, [9]: water that passes through the middle cell of three is no longer refused.
 #[test]
 fn water_passes_through() {
-    let card = Card { columns: 3, ..CARD };
-    let state = |heights: [i32; 3], first, second| [&heights[..], &[0, first, second, 0], &[0; 6]].concat();
-    let mut next = vec![-7; 13];
-    let through = state([1_000_000; 3], 6_000_000, 6_000_000);
-    assert_eq!(library::step(&mut Rng::new(1), card, &[0; 3], &through, &mut next), 0);
-    assert_eq!(next, state([400_000, 1_000_000, 1_600_000], 2_840_172, 5_411_601));
+    let next = step_three([0; 3], &three([1_000_000; 3], 6_000_000, 6_000_000));
+    assert_eq!(next, three([400_000, 1_000_000, 1_600_000], 2_840_172, 5_411_601));
 }
 
 #[test]
@@ -56,31 +64,41 @@ fn a_transfer_goes_towards_zero() {
 
 #[test]
 fn three_cells_at_rest() {
-    let card = Card { columns: 3, ..CARD };
-    let state = [1_000_000, 600_000, 900_000, 0, 0, 0, 0, 0, 0, 0, 0, 0, 0];
-    let mut next = vec![-7; 13];
-    assert_eq!(library::step(&mut Rng::new(1), card, &[0, 400_000, 100_000], &state, &mut next), 0);
-    assert_eq!(next, state);
+    let state = three([1_000_000, 600_000, 900_000], 0, 0);
+    assert_eq!(step_three([0, 400_000, 100_000], &state), state);
 }
 
-/// Document 02, [2]: the bank that pulled with -490,332 no longer does.
+/// Document 02, [2]: the bank that pulled with -490,332 no longer does; with 1 µm of water on it, it is none.
 #[test]
 fn a_dry_bank_does_not_pull() {
     assert_eq!(step_pair([0, 1_500_000], [1_000_000, 0], 0), Ok(pair([1_000_000, 0], 0)));
+    assert_eq!(step_pair([0, 1_500_000], [1_000_000, 1], 0), Ok(pair([1_000_000, 1], -490_333)));
 }
 
 /// At the surface it is a bank, and 1 µm below it is none; there a rise of -1 rounds to no slope.
 #[test]
 fn a_bank_as_high_as_the_water() {
     let left = -3_000_000;
-    assert_eq!(step_pair([0, 1_000_000], [1_000_000, 0], left), Ok(pair([1_000_000, 0], 0)));
-    assert_eq!(step_pair([0, 999_999], [1_000_000, 0], left), Ok(pair([1_000_000, 0], left)));
+    for ground in [0, -400_000] {
+        let surface = ground + 1_000_000;
+        assert_eq!(step_pair([ground, surface], [1_000_000, 0], left), Ok(pair([1_000_000, 0], 0)));
+        assert_eq!(step_pair([ground, surface - 1], [1_000_000, 0], left), Ok(pair([1_000_000, 0], left)));
+    }
 }
 
 /// New heights count: the west cell is dry only after the step.
 #[test]
 fn a_bank_by_its_new_height() {
     assert_eq!(step_pair([3_000_000, 0], [2_000_000, 1_000_000], 10_000_000), Ok(pair([0, 3_000_000], 0)));
+}
+
+/// And so does the new surface: the water that comes up to the bank is stopped there, and runs over one that is 1 µm lower.
+#[test]
+fn a_bank_by_the_new_surface() {
+    let state = three([2_000_000, 1_000_000, 0], 5_000_000, 0);
+    for (bank, second) in [(2_000_000, 0), (1_999_999, 2_500_000)] {
+        assert_eq!(step_three([0, 0, bank], &state), three([1_000_000, 2_000_000, 0], 2_352_668, second));
+    }
 }
 
 #[test]
