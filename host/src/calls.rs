@@ -23,8 +23,8 @@ fn done<T>(number: u32, needed: usize, answer: T) -> Result<T, Refusal> {
     }
 }
 
-/// One step: fills `next` from `ground` and `state`. Where one of a face's cells is dry after it and its ground is at or above the other's
-/// new surface, a dry bank, the new velocity is 0.
+/// One step: fills `next` from `ground` and `state`. A cell that is dry after it and whose ground is at or above the new surface of the cell
+/// beside it is a dry bank: the face between them gets the velocity 0.
 ///
 /// ```
 /// use water::{calls, Card, Refusal};

@@ -55,7 +55,7 @@ pub record NothingCrosses (f : Face) : Type 0 where
   pub belowK : f .belowK ≡ pos 0
   pub belowL : f .belowL ≡ pos 0
 
--- no flow brings nothing
+-- where nothing flows, nothing is brought
 none-brought : (v : ℤ) → brought (pos 0) v ≡ pos 0
 unfolding brought forward positive
 none-brought v = zero-*ℤ v

@@ -1,5 +1,5 @@
--- The new velocity of a face, case by case: 0 without water, 0 on a dry bank, else the carried part less the slope. Where nothing is carried that is the slope
--- alone, and 0 where both surfaces are one.
+-- The new velocity of a face, case by case: 0 without water, 0 on a dry bank, else the carried part less the slope. Where nothing is carried that is 0 less
+-- the slope, and 0 where both surfaces are one.
 use Prim.Native.Nat.{ℕ}
 use mathlib.Core.Path.{_≡_, _∙_}
 use mathlib.Core.Bool.{true, false, _||_, or-true}

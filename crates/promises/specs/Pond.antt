@@ -45,7 +45,7 @@ pub record PondOnNumbers : Type 0 where
   pub meets : (check pondCard pondGround (pond (pos 800000)) ≡ 0) × (stillWater pondCard pondGround (pond (pos 800000)) ≡ true)
   -- 1 µm more: it is not, though nothing moves yet
   pub misses : (stillWater pondCard pondGround (pond (pos 800001)) ≡ false) × Becomes (pond (pos 800001)) (pond (pos 800001))
-  -- 2 µm more: it is not, and all four faces of the deepest cell get 1 µm/s out of it, up the shore in the west and the south too
+  -- 2 µm more: it is not, and all four faces of the deepest cell get 1 µm/s out of it, onto the shore in the west and the south too
   pub moves : (stillWater pondCard pondGround (pond (pos 800002)) ≡ false) × Becomes (pond (pos 800002)) (stirred (pos 800002) (negℤ (pos 1)) (pos 1) (negℤ (pos 1)) (pos 1))
 
 pub pond-on-numbers : PondOnNumbers

@@ -1,5 +1,5 @@
 -- Why still water stays. Where no face has a velocity nothing crosses a face, so that every height stays and the step limit is kept; and a face that rests gets
--- the velocity 0: between two wet cells of one surface nothing pulls, and a dry cell beside a wet one is a bank.
+-- the velocity 0: between two wet cells of one surface nothing pulls, a dry cell beside a wet one is a bank, and over two dry ones there is no water.
 use Prim.Native.Nat.{ℕ, suc, _≤_, _<_, suc-le-suc}
 use mathlib.Core.Path.{_≡_, refl, sym, _∙_}
 use mathlib.Core.Bool.{Bool, true, false}

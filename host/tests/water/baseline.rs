@@ -52,6 +52,7 @@ fn measured_sites() {
             let still = !matches!(water, Water::Puddle | Water::Moving);
             assert_eq!(model::still_water(&site.site()), still, "{}", water.name());
             let (banks, faces) = (site.banks_in(&site.state), site.inner_faces().len());
+            // of 8 cells in a row 3 faces of 7, of 128 63 of 127
             let half = (2 * banks).abs_diff(faces) * 5 < faces;
             assert_eq!(half, matches!(water, Water::Pond), "{} of {size}: {banks} dry banks on {faces} faces", water.name());
         }

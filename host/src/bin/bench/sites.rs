@@ -15,8 +15,8 @@ pub enum Water {
     Dry,
     /// A level lake over uneven ground, at rest.
     Lake,
-    /// A level pond with shores: uneven ground in squares of 2×2 cells, by turns a hollow full of water and a dry bank, so that half of all
-    /// faces have water on one side and a bank on the other. Nothing moves.
+    /// A level pond with shores: uneven ground in squares of 2×2 cells, by turns a hollow full of water and a dry bank, so that nearly half
+    /// of all faces (3 of 7 in a row of 8 cells) have water on one side and a bank on the other. Nothing moves.
     Pond,
     /// Dry level ground, and in its south-west a puddle that moves, an eighth of the site's side long and wide and no less than two cells:
     /// 16×16 cells on 128×128. No row has it in its middle, where the library looks first for a row that moves.

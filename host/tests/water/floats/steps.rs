@@ -15,9 +15,9 @@
 //!
 //! Where the library's H' is 0 its velocity is 0 by rule, while the doubles may keep up to 6 µm of water there: not compared.
 //!
-//! On a dry bank it is 0 by rule too. Both programs look for banks by their own new heights, which differ by less than 4 µm: where one
-//! has a bank, the other has a bank as well, or less than 4 µm of water on it, or a surface beside it that is less than 4 µm above its
-//! ground. Where both have one, both velocities must be 0; where only one has, that much is asserted, and the velocities are not compared.
+//! On a dry bank it is 0 by rule too. Both programs look for banks by their own new heights, which differ by less than 4 µm: where one has
+//! a bank, the other has one as well, or misses it by less than 4 µm of water on it and of the surface beside it above its ground. The
+//! velocity of a program that has a bank must be 0; where only one has, the two are not compared.
 
 use super::scheme::{dry_bank, leaving, step, Water, GRAVITY};
 use crate::rng::Rng;
@@ -60,8 +60,8 @@ impl Seen {
     }
 }
 
-/// How many of the two programs have a dry bank on the face between k and l. Where one of them has, the other nearly does.
-fn programs_with_bank(ground: &[i32], programs: [&Water; 2], k: usize, l: usize) -> usize {
+/// Which of the two programs have a dry bank on the face between k and l. Where one of them has, the other nearly does.
+fn have_bank(ground: &[i32], programs: [&Water; 2], k: usize, l: usize) -> [bool; 2] {
     let banks = programs.map(|water| dry_bank(ground, &water.heights, k, l));
     for (bank, beside) in banks.into_iter().flatten() {
         for Water { heights, .. } in programs {
@@ -69,7 +69,7 @@ fn programs_with_bank(ground: &[i32], programs: [&Water; 2], k: usize, l: usize)
             assert!(heights[bank] < HEIGHT_OFF && above < HEIGHT_OFF, "{} µm on a bank, {above} above it", heights[bank]);
         }
     }
-    banks.into_iter().flatten().count()
+    banks.map(|bank| bank.is_some())
 }
 
 fn compare_step(site: &Wild, next: &[i32], seen: &mut Seen) {
@@ -91,17 +91,18 @@ fn compare_step(site: &Wild, next: &[i32], seen: &mut Seen) {
             seen.dry += 1;
             continue;
         }
-        match programs_with_bank(&site.ground, [&ours, &doubles], k, l) {
-            0 => {
+        let banks = have_bank(&site.ground, [&ours, &doubles], k, l);
+        for (bank, velocity) in banks.into_iter().zip([whole, double]) {
+            assert!(!bank || velocity == 0.0, "on a dry bank the velocity is {velocity}");
+        }
+        match banks {
+            [false, false] => {
                 let side = if place < site.north(0, 0) { site.card.dx } else { site.card.dy };
                 let allowed = 14.0 * fastest / sum + 1.0 + 1.0 + 8.0 * GRAVITY * seconds / f64::from(side) + 1e-3;
                 seen.compare_velocity(whole, double, allowed);
             }
-            1 => seen.by_one += 1,
-            _ => {
-                assert_eq!((whole, double), (0.0, 0.0), "dry banks stand still");
-                seen.banks += 1;
-            }
+            [true, true] => seen.banks += 1,
+            _ => seen.by_one += 1,
         }
     }
 }

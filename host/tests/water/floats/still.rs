@@ -2,22 +2,19 @@
 //! and so does still water with shores, as document 02's [2] has it.
 
 use super::scheme::{step, Water};
+use crate::ponds::assert_lies_still;
 use crate::rng::Rng;
 use crate::wild::{self, Wild};
-use water::{Card, Site};
+use water::Card;
 
-/// As it was after as many steps as its card wants, and the doubles after 100.
-fn assert_lies_still(what: &str, start: &Wild) {
-    let mut site = Site::new(start.card, start.ground.clone(), start.state.clone()).unwrap();
-    let tally = site.run();
-    assert_eq!((tally.steps, tally.reason), (start.card.steps, None));
-    let off = site.state().iter().zip(&start.state).map(|(a, b)| (a - b).abs()).max().unwrap();
-
+/// The library after as many steps as the card wants, and the doubles after 100.
+fn assert_both_lie_still(what: &str, start: &Wild) {
+    assert_lies_still(start);
     let rest = Water::of(&start.card, &start.state);
     let water = (0..100).fold(rest.clone(), |water, _| step(&start.card, &start.ground, &water));
-    let float_off = water.all().iter().zip(&rest.all()).fold(0.0, |most: f64, (a, b)| most.max((a - b).abs()));
-    println!("floats, {what}: off by {off} µm after {} steps, the doubles by {float_off} after 100", tally.steps);
-    assert_eq!((off, float_off), (0, 0.0));
+    let off = water.all().iter().zip(&rest.all()).fold(0.0, |most: f64, (a, b)| most.max((a - b).abs()));
+    println!("floats, {what}: as it was after {} steps, the doubles off by {off} after 100", start.card.steps);
+    assert_eq!(off, 0.0);
 }
 
 #[test]
@@ -29,10 +26,10 @@ fn a_lake_at_rest() {
         lake.ground[k] = rng.between(-20_000_000, 9_999_999) as i32;
         lake.state[k] = 10_000_000 - lake.ground[k];
     }
-    assert_lies_still("lake at rest", &lake);
+    assert_both_lie_still("lake at rest", &lake);
 }
 
 #[test]
 fn a_pond_with_a_shore() {
-    assert_lies_still("pond with a shore", &wild::with_shore());
+    assert_both_lie_still("pond with a shore", &wild::with_shore());
 }

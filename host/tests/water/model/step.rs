@@ -1,5 +1,5 @@
 //! "One step": transfers first, then heights, then velocities, which use old transfers and new heights. A dry bank is one by its new
-//! height and the other cell's.
+//! height and the other cell's new surface.
 
 use super::bank::{Cell, Pair};
 use super::grid::Grid;

@@ -4,7 +4,7 @@
 //!
 //! Two cells stand side by side unless told, sides 1,000,000 and dt 100; a velocity below 10 lets nothing out of 1 m of water.
 
-use super::stepped;
+use super::{pair, stepped};
 use crate::library;
 use crate::model::Pair;
 use crate::trials::{single, trials};
@@ -16,14 +16,10 @@ const METRE: i32 = 1_000_000;
 
 /// The two cells' new heights and the new velocity between them; each turn of the site gives them turned.
 fn step_pair(ground: [i32; 2], heights: [i32; 2], u: i32) -> ([i32; 2], i32) {
-    let mut site = Wild::empty(CARD);
-    let middle = site.east(1, 0);
-    site.ground.copy_from_slice(&ground);
-    site.state[..2].copy_from_slice(&heights);
-    site.state[middle] = u;
+    let site = pair(CARD, ground, heights, u);
     let (number, next) = stepped(&site);
     assert_eq!(number, 0);
-    ([next[0], next[1]], next[middle])
+    ([next[0], next[1]], next[site.east(1, 0)])
 }
 
 /// In L and in K, on eastward and, by the turn, northward faces, with velocities that let nothing out of the water.
@@ -46,12 +42,9 @@ fn at_the_surface_and_beside_it() {
 #[test]
 fn one_micrometre_below_the_surface() {
     for (ground, velocity) in [(METRE + 1, 0), (METRE, 0), (METRE - 1, 98), (METRE - 2, 196)] {
-        let mut site = Wild::empty(Card { dx: 100_000, dt: 1_000, ..CARD });
-        let middle = site.east(1, 0);
-        site.ground[1] = ground;
-        site.state[0] = METRE;
+        let site = pair(Card { dx: 100_000, dt: 1_000, ..CARD }, [0, ground], [METRE, 0], 0);
         let (number, next) = stepped(&site);
-        assert_eq!((number, next[middle]), (0, velocity));
+        assert_eq!((number, next[site.east(1, 0)]), (0, velocity));
     }
 }
 

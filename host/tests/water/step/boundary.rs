@@ -1,6 +1,6 @@
 //! Refusals 1 to 5 and 7 of the step, each from both sides of its boundary, and the lowest of several. (6 is unused: shares.rs.)
 
-use super::stepped;
+use super::{pair, stepped};
 use crate::library;
 use crate::rng::Rng;
 use crate::wild::Wild;
@@ -177,19 +177,14 @@ fn step_with(site: &Wild, place: usize, velocity: i32) -> u32 {
     library::step(&mut Rng::new(place as u64), site.card, &site.ground, &state, &mut vec![0; state.len()])
 }
 
-/// Two cells side by side, u being the velocity between them.
-fn pair(sides: u32, ground: [i32; 2], heights: [i32; 2], u: i32) -> Wild {
-    let mut site = Wild::empty(Card { columns: 2, rows: 1, dx: sides, dy: sides, dt: 1_000, steps: 0 });
-    let middle = site.east(1, 0);
-    site.ground.copy_from_slice(&ground);
-    site.state[..2].copy_from_slice(&heights);
-    site.state[middle] = u;
-    site
+/// The card of two cells of these sides, with the longest time step.
+fn two_cells(sides: u32) -> Card {
+    Card { columns: 2, rows: 1, dx: sides, dy: sides, dt: 1_000, steps: 0 }
 }
 
-/// The number of a step of two cells side by side and of each turn of them.
+/// The number of a step of two cells side by side and of each turn of them, u being the velocity between them.
 fn number_of_pair(sides: u32, ground: [i32; 2], heights: [i32; 2], u: i32) -> u32 {
-    stepped(&pair(sides, ground, heights, u)).0
+    stepped(&pair(two_cells(sides), ground, heights, u)).0
 }
 
 /// Refusal 5: 1,000 flow in; the surface is level afterwards, so that the velocity is out of the way.
@@ -214,7 +209,7 @@ fn a_new_velocity_on_both_sides() {
 fn a_steep_bank_is_not_too_fast() {
     let highest = 50_000_000;
     for water in [1, 1_000_000, 50_000_000] {
-        let site = pair(100_000, [-highest, highest], [water, 0], 0);
+        let site = pair(two_cells(100_000), [-highest, highest], [water, 0], 0);
         assert_eq!(stepped(&site), (0, site.state));
         assert_eq!(number_of_pair(100_000, [-highest, highest], [water, 1], 0), 7);
     }

@@ -14,6 +14,17 @@ use crate::library;
 use crate::model::TURNS;
 use crate::rng::Rng;
 use crate::wild::Wild;
+use water::raw::Card;
+
+/// Two cells side by side on a card of two columns and one row, u being the velocity between them.
+fn pair(card: Card, ground: [i32; 2], heights: [i32; 2], u: i32) -> Wild {
+    let mut site = Wild::empty(card);
+    let middle = site.east(1, 0);
+    site.ground.copy_from_slice(&ground);
+    site.state[..2].copy_from_slice(&heights);
+    site.state[middle] = u;
+    site
+}
 
 /// The number of a step of this site and the list that it was lent for the next state, which each turn of the site gives turned.
 fn stepped(site: &Wild) -> (u32, Vec<i32>) {

@@ -57,7 +57,7 @@ pub fn of_limit(rng: &mut Rng) -> Wild {
 /// that the own share of the face between them has.
 pub fn of_share(rng: &mut Rng) -> Wild {
     let mut card = quick(rng, 4, 3);
-    // heights, too, with which thousandths of the water are whole numbers
+    // sides and a time step (`whole`), and heights below, with which thousandths of the water are whole numbers
     let in_thousandths = rng.percent(50);
     if in_thousandths {
         card = whole(rng, card);

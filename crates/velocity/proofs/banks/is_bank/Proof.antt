@@ -1,4 +1,5 @@
--- `is_bank`: the test for 0 compares bits, and the height fits its word; the order is that of the numbers. (With `& true` behind it the function is proved too.)
+-- `is_bank`: the test for 0 compares bits, and the height fits its word; the order is that of the numbers. `and-true` stands there for the edit `banks_pull`: with
+-- `& true` behind it the function is proved, so that `& false` is refused for what it returns.
 use mathlib.Core.Bool.{and-true}
 use mir.Facts.{toZ-ofZ}
 use Rattle.rules.specs.Step.{isBank}
