@@ -71,8 +71,8 @@ pub fn new_velocity(f: Face, dt: u32, d: u32) -> i64
     quotient(momentum::carried(f), h as i64) - slope(f, dt, d)
 }
 
-// That of a face which carries nothing, as none does between still rows; on a level surface, as of a lake, no bank is looked for. It is a function of
-// its own: the compiler would make one place of two calls of the other, and have every still face go through the products of one that moves.
+// That of a face which carries nothing, as all do between still rows; on a level surface, as of a lake, no bank is looked for. It is a function of its own:
+// of two calls of the other the compiler would make one place, and every still face would go through the products of one that moves.
 pub fn still_velocity(f: Face, dt: u32, d: u32) -> i64
     requires { ⌜ InStillVelocity f dt d ⌝ }
     ensures { λ r. ⌜ r ≡ step.newVelocity dt d f ⌝ }
