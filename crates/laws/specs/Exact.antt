@@ -11,9 +11,10 @@
 -- Each start and operation is an `abbrev`, so that `fits t` computes to the need and `value t` to the equation with the definition.
 use Prim.Native.Nat.{ℕ, _+_, _*_, _≤_, _<_, _^_}
 use mathlib.Core.Path.{_≡_, refl, sym, ap, _∙_, subst}
+use mathlib.Core.Bool.{true, false}
 use native.Mathlib.Nat.{le-trans, le-refl, mul-le-mul, div-le-self, lt-of-le-of-lt, add-le-add, le-of-eq}
 use native.Mathlib.Omega.{arith}
-use borrow.Author.Tests.{eq-eqb}
+use borrow.Author.Tests.{eq-eqb, ne-eqb}
 use lib.Dec.{T, eqb, ltb, eqb→eq, ltb→lt}
 use lib.Pow.{pow-pos}
 use lib.IntN.{ℤ, pos, negsuc, negℤ, natAbs, _+ℤ_, _-ℤ_, _*ℤ_, +ℤ-idl}
@@ -133,6 +134,13 @@ is-zero t e = sym (t .is) ∙ no-bits (fits t) e
 
 pub not-zero : {w : Width} (t : Node w) → (ofZ w (t .raw) ≡ 0 → ⊥) → natAbs (t .z) ≡ 0 → ⊥
 not-zero {w} t f e = f (ap (ofZ w) (t .is ∙ no-size (t .z) e))
+
+-- what the test says of z, taken and left
+pub says-zero : {w : Width} (t : Node w) → ofZ w (t .raw) ≡ 0 → eqb (natAbs (t .z)) 0 ≡ true
+says-zero t e = eq-eqb (natAbs (t .z)) 0 (ap natAbs (is-zero t e))
+
+pub says-other : {w : Width} (t : Node w) → (ofZ w (t .raw) ≡ 0 → ⊥) → eqb (natAbs (t .z)) 0 ≡ false
+says-other t f = ne-eqb (natAbs (t .z)) 0 (not-zero t f)
 
 -- the test itself
 pub zero-test : {w : Width} {z : ℤ} → SFits w z → eqb (ofZ w z) 0 ≡ eqb (natAbs z) 0

@@ -1,12 +1,11 @@
 -- `new_velocity`: H' is tested before it divides, and then the banks; the bounds on A and on the slope keep the difference from wrapping.
-use mathlib.Core.Path.{_≡_, _∙_, sym, ap}
+use mathlib.Core.Path.{_≡_, _∙_, sym}
 use native.Mathlib.Omega.{arith}
 use borrow.Author.Needs.{needs}
-use borrow.Author.Tests.{eq-eqb, ne-eqb}
 use lib.IntN.{natAbs}
 use mir.Syntax.{w32, w64}
 use Rattle.laws.specs.Velocity.{without-water, on-a-bank, elsewhere}
-use Rattle.laws.specs.Exact.{Node, fits, value, is-zero, not-zero, result, sub, cast}
+use Rattle.laws.specs.Exact.{Node, fits, value, not-zero, says-zero, says-other, result, sub, cast}
 use Rattle.momentum.proofs.Bounds.{carried-within}
 use Rattle.velocity.proofs.Bounds.{sum-within, slope-within}
 use Rattle.velocity.proofs.Quotients.{may-divide, divided}
@@ -18,7 +17,7 @@ abbrev h : tie.After-new-sum → Node w32
 h c = result (c .new-sum .ensures) (sum-within (c .before .pre .face)) tt
 
 returns : tie.Need-returns
-returns c = sym (without-water _ _ _ (eq-eqb _ 0 (ap natAbs (is-zero (h (c .before)) (c .if1 .taken)))))
+returns c = sym (without-water _ _ _ (says-zero (h (c .before)) (c .if1 .taken)))
 
 -- what a bank returns
 returns-2 : tie.Need-returns-2
@@ -52,7 +51,7 @@ new c =
 returns-3 : tie.Need-returns-3
 returns-3 c =
     let a : tie.After-carried = c .before .before in
-    value (new c) ∙ sym (elsewhere _ _ _ (ne-eqb _ 0 (wet a)) (sym (tested a .dry-bank .ensures) ∙ a .before .if2 .left))
+    value (new c) ∙ sym (elsewhere _ _ _ (says-other (h (summed a)) (tested a .before .if1 .left)) (sym (tested a .dry-bank .ensures) ∙ a .before .if2 .left))
 
 -- that each fits, and what each call requires
 new-sum-requires : tie.Need-new-sum-requires

@@ -1,11 +1,9 @@
 -- `still_velocity`: without water, on a level surface and on a bank nothing pulls where nothing is carried; elsewhere the slope alone does.
-use mathlib.Core.Path.{_∙_, sym, ap}
+use mathlib.Core.Path.{_∙_, sym}
 use borrow.Author.Needs.{needs}
-use borrow.Author.Tests.{eq-eqb, ne-eqb}
-use lib.IntN.{natAbs}
 use mir.Syntax.{w32, w64}
 use Rattle.laws.specs.Velocity.{without-water, on-a-bank, slope-alone, nothing-pulls}
-use Rattle.laws.specs.Exact.{Node, fits, value, is-zero, not-zero, lit, result, sub}
+use Rattle.laws.specs.Exact.{Node, fits, value, is-zero, says-zero, says-other, lit, result, sub}
 use Rattle.velocity.proofs.Bounds.{sum-within, rise-within, slope-within}
 use Rattle.velocity.proofs.still_velocity.Statement.{statement}
 use Rattle.velocity.proofs.still_velocity.Tie as tie
@@ -21,7 +19,7 @@ abbrev risen : tie.After-rise → Node w32
 risen c = result (c .rise .ensures) (rise-within (summed c .before .pre .velocity .face)) tt
 
 returns : tie.Need-returns
-returns c = sym (without-water _ _ _ (eq-eqb _ 0 (ap natAbs (is-zero (h (c .before)) (c .if1 .taken)))))
+returns c = sym (without-water _ _ _ (says-zero (h (c .before)) (c .if1 .taken)))
 
 returns-2 : tie.Need-returns-2
 returns-2 c = let r = c .before in sym (nothing-pulls _ _ _ (summed r .before .pre .nothing) (is-zero (risen r) (c .if2 .taken)))
@@ -43,7 +41,7 @@ returns-4 : tie.Need-returns-4
 returns-4 c =
     let s = summed (level c) in
     value (new c)
-    ∙ sym (slope-alone _ _ _ (s .before .pre .nothing) (ne-eqb _ 0 (not-zero (h s) (level c .before .if1 .left))) (sym (free c .before .dry-bank .ensures) ∙ free c .if3 .left))
+    ∙ sym (slope-alone _ _ _ (s .before .pre .nothing) (says-other (h s) (level c .before .if1 .left)) (sym (free c .before .dry-bank .ensures) ∙ free c .if3 .left))
 
 -- that the difference fits, and what each call requires
 new-sum-requires : tie.Need-new-sum-requires

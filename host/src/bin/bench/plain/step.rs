@@ -1,6 +1,6 @@
 //! The step and the run. `tide` holds the new heights and what crosses each face, in the state's own layout. One flag says whether a
-//! division is left out where what it would divide is 0; without it each inner face divides once for what crosses it and, unless it is a
-//! dry bank, twice for its new velocity.
+//! division is left out where what it would divide is 0; without it each inner face divides once for what crosses it and, where
+//! there is water and no dry bank, twice for its new velocity.
 
 use super::site::{check, speed_fits};
 use water::raw::{Card, Tally};
