@@ -6,7 +6,7 @@ use mathlib.Core.Bool.{Bool, true, false, cond, _||_, or-comm}
 use lib.IntN.{ℤ, pos, negsuc, negℤ, natAbs, _-ℤ_, _*ℤ_, negℤ-negℤ, negℤ-+ℤ, +ℤ-comm}
 use Rattle.rules.specs.declared.Face.{Face}
 use Rattle.rules.specs.Site.{isZero}
-use Rattle.rules.specs.Step.{Rule, transfer, outAhead, outBehind, outAbove, outBelow, positive, newSum, ownShare, brought, carried, carriedPart, rise, slope, bankK, bankL, dryBank, newVelocity}
+use Rattle.rules.specs.Step.{Rule, transfer, outAhead, outBehind, outAbove, outBelow, positive, newSum, ownShare, brought, carried, carriedPart, rise, slope, bankK, bankL, dryBank, newVelocityBy, newVelocity}
 use Rattle.rules.proofs.Signs.{mul-neg, neg-quot, sums, turned-difference}
 
 -- a face turned end for end: K and L change places, ahead and behind too, and what is directed is negated
@@ -122,7 +122,7 @@ module _ (f : Face) where
   unfolding rise endForEnd
   rise-by-ends = rw turned-difference
 
-  slope-by-ends : (dt d : ℕ) → slope dt d (endForEnd f) ≡ negℤ (slope dt d f)
+  slope-by-ends : (dt d : ℕ) → slope dt d (rise (endForEnd f)) ≡ negℤ (slope dt d (rise f))
   unfolding slope
   slope-by-ends dt d = rw (rise-by-ends, mul-neg (pos (9806650 * dt)) (rise f)) (neg-quot (pos (9806650 * dt) *ℤ rise f) (pos (1000 * d)))
 
@@ -136,13 +136,13 @@ module _ (f : Face) where
   neg-difference false q q′ s e = rw e (sym (negℤ-+ℤ q (negℤ s)))
 
   velocity-by-ends : (dt d : ℕ) → newVelocity dt d (endForEnd f) ≡ negℤ (newVelocity dt d f)
-  unfolding newVelocity endForEnd
+  unfolding newVelocityBy endForEnd
   velocity-by-ends dt d =
       rw (carried-by-ends, slope-by-ends, bank-by-ends, +ℤ-comm (f .newL) (f .newK))
-      (neg-difference (isZero (newSum f) || dryBank f) (carriedPart f) _ (slope dt d f) (neg-quot (carried f) (newSum f)))
+      (neg-difference (isZero (newSum f) || dryBank f) (carriedPart f) _ (slope dt d (rise f)) (neg-quot (carried f) (newSum f)))
 
   velocity-by-sides : (dt d : ℕ) → newVelocity dt d (sideForSide f) ≡ newVelocity dt d f
-  unfolding newVelocity sideForSide slope rise dryBank
+  unfolding newVelocityBy sideForSide rise dryBank
   velocity-by-sides dt d = rw carried-by-sides
 
 -- what demand 3 asks of a rule for new velocities; document 01's, with [2]'s banks, has it

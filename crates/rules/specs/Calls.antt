@@ -14,19 +14,34 @@ use Rattle.rules.specs.declared.Found.{Found}
 use Rattle.rules.specs.declared.Heard.{Heard}
 use Rattle.rules.specs.declared.Wrote.{Wrote}
 use Rattle.rules.specs.Site.{checkAlso, check, checkWith, firstRefusal, ifDone}
-use Rattle.rules.specs.Step.{stepNumber, nextState}
+use Rattle.rules.specs.Step.{Rule, newVelocity, stepNumberBy, nextStateBy}
+use Rattle.rules.specs.Textbook.{textbookVelocity}
 use Rattle.rules.specs.Run.{Outcome, runAfter}
 use Rattle.rules.specs.Search.{registerFits, askedFits, listOf}
 use Rattle.rules.specs.Sheet.{sheetSize, sheetOf, cardIn, groundIn, stateIn, readNumber, noCard}
 use Rattle.rules.specs.Text.{depthText, fitted}
 
--- ---- Step: reads ground and state, fills a next state. Refused: next state as lent.
+-- ---- Step: reads ground and state, fills a next state. Refused: next state as lent. Over the rule for new velocities
 
-unfoldable pub stepAnswer : Card → (ground state next : List ℤ) → ℕ
-stepAnswer c g s next = firstRefusal (checkWith c g s (length next)) (stepNumber c g s)
+unfoldable pub stepAnswerBy : Rule → Card → (ground state next : List ℤ) → ℕ
+stepAnswerBy rule c g s next = firstRefusal (checkWith c g s (length next)) (stepNumberBy rule c g s)
 
-unfoldable pub stepNext : Card → (ground state next : List ℤ) → List ℤ
-stepNext c g s next = ifDone (stepAnswer c g s next) (nextState c g s) next
+unfoldable pub stepNextBy : Rule → Card → (ground state next : List ℤ) → List ℤ
+stepNextBy rule c g s next = ifDone (stepAnswerBy rule c g s next) (nextStateBy rule c g s) next
+
+-- by document 01's rule
+abbrev pub stepAnswer : Card → (ground state next : List ℤ) → ℕ
+stepAnswer = stepAnswerBy newVelocity
+
+abbrev pub stepNext : Card → (ground state next : List ℤ) → List ℤ
+stepNext = stepNextBy newVelocity
+
+-- by the textbook's (document 02, [5])
+abbrev pub textbookAnswer : Card → (ground state next : List ℤ) → ℕ
+textbookAnswer = stepAnswerBy textbookVelocity
+
+abbrev pub textbookNext : Card → (ground state next : List ℤ) → List ℤ
+textbookNext = stepNextBy textbookVelocity
 
 -- ---- Run: a state and a scratch list of equal length. Reasons 1 to 3: both lists as lent. Otherwise scratch is all zero.
 

@@ -13,13 +13,21 @@ use Rattle.rules.specs.declared.Found.{Found}
 use Rattle.rules.specs.declared.Heard.{Heard}
 use Rattle.rules.specs.declared.Wrote.{Wrote}
 use Rattle.rules.specs.Search.{xsOf, ysOf}
-use Rattle.rules.specs.Calls.{stepAnswer, stepNext, runTally, runState, runScratch, searchAnswer, searchFound, readAnswer, readGroundList, readStateList, writeAnswer, writeBytes, textPart, textScratch}
+use Rattle.rules.specs.Step.{Rule, newVelocity}
+use Rattle.rules.specs.Textbook.{textbookVelocity}
+use Rattle.rules.specs.Calls.{stepAnswerBy, stepNextBy, runTally, runState, runScratch, searchAnswer, searchFound, readAnswer, readGroundList, readStateList, writeAnswer, writeBytes, textPart, textScratch}
 
--- ---- step
+-- ---- step, over the rule for new velocities; by document 01's, and by the textbook's
 
-pub record StepContract (c : Card) (ground state next : List ℤ) (number : ℕ) (nextAtExit : List ℤ) : Type 0 where
-  pub answer : number ≡ stepAnswer c ground state next
-  pub next-exit : nextAtExit ≡ stepNext c ground state next
+pub record StepContractBy (rule : Rule) (c : Card) (ground state next : List ℤ) (number : ℕ) (nextAtExit : List ℤ) : Type 0 where
+  pub answer : number ≡ stepAnswerBy rule c ground state next
+  pub next-exit : nextAtExit ≡ stepNextBy rule c ground state next
+
+abbrev pub StepContract : (c : Card) (ground state next : List ℤ) (number : ℕ) (nextAtExit : List ℤ) → Type 0
+StepContract = StepContractBy newVelocity
+
+abbrev pub TextbookContract : (c : Card) (ground state next : List ℤ) (number : ℕ) (nextAtExit : List ℤ) → Type 0
+TextbookContract = StepContractBy textbookVelocity
 
 -- ---- run
 

@@ -1,6 +1,7 @@
 pub mod Grid
 pub mod Site
 pub mod Step
+pub mod Textbook
 pub mod Run
 pub mod Turn
 pub mod Search

@@ -1,4 +1,5 @@
 -- Document 01, "Numbers to check by": the starred cases, in a single table under a single claim, proved by computation; and cases of document 02's [9], [8] and [2].
+-- Each step is made by both engines, document 01's and the textbook's ([5]).
 use Prim.Native.Nat.{ℕ}
 use mathlib.Core.Path.{_≡_, refl}
 use mathlib.Core.List.{List, [], _∷_, _++_}
@@ -7,9 +8,10 @@ use lib.IntN.{ℤ, pos, negℤ}
 use Rattle.rules.specs.declared.Card.{Card}
 use Rattle.rules.specs.Grid.{tabulate, grid, all, allAt, greatest, sum, sumAt}
 use Rattle.rules.specs.Site.{readGround, readState, writeState, stateLength, sumOfHeights, sizesFit, sidesFit, timesFit, cardFits, lengthsFit, groundsFit, heightsFit, velocitiesFit, wallsStill, valuesFit, firstOf, checkAlso, checkWith, firstRefusal, ifDone}
-use Rattle.rules.specs.Step.{walled, transfer, eastTransfer, northTransfer, forward, backward, withinLimit, newHeight, after, before, eastFace, northFace, outAhead, outBehind, outAbove, outBelow, positive, ownShare, brought, carried, rise, slope, isBank, dryBank, newVelocity, newEast, newNorth, next, limitKept, newHeightsFit, newVelocitiesFit, answer, number, stepNumberBy, nextStateBy, stepNumber, nextState}
+use Rattle.rules.specs.Step.{walled, transfer, eastTransfer, northTransfer, forward, backward, withinLimit, newHeight, after, before, eastFace, northFace, outAhead, outBehind, outAbove, outBelow, positive, ownShare, brought, carried, rise, slope, isBank, dryBank, newVelocityBy, newEast, newNorth, next, limitKept, newHeightsFit, newVelocitiesFit, answer, number, stepNumberBy, nextStateBy, nextState}
+use Rattle.rules.specs.Textbook.{pressure, pressureTerm, groundTerm, textbookRise}
 use Rattle.rules.specs.Text.{digitsOf, decimal, heightText, depthText}
-use Rattle.rules.specs.Calls.{stepAnswer, stepNext}
+use Rattle.rules.specs.Calls.{stepAnswerBy, stepNextBy, stepAnswer, stepNext, textbookAnswer, textbookNext}
 
 -- sides 1,000,000 and dt 100; one row
 unfoldable pub oneRow : (columns : ℕ) → Card
@@ -41,13 +43,19 @@ square = record { columns = 2; rows = 2; dx = 1000000; dy = 1000000; dt = 100; s
 unfoldable pub four : (southwest southeast northwest northeast north : ℤ) → List ℤ
 four a b c d v = a ∷ b ∷ c ∷ d ∷ (flat 6 ++ (pos 0 ∷ pos 0 ∷ v ∷ flat 3))
 
--- a row of the table, where the list that is lent for the next state holds the state itself: the step is accepted, and leaves this state there
+-- a row of the table, where the list that is lent for the next state holds the state itself: by both engines the step has this number, and leaves this there
+abbrev pub Leaves : (columns : ℕ) (ground state : List ℤ) (number : ℕ) (then : List ℤ) → Type 0
+Leaves columns g s k then =
+    let c = oneRow columns in
+    (stepAnswer c g s s ≡ k) × (stepNext c g s s ≡ then) × (textbookAnswer c g s s ≡ k) × (textbookNext c g s s ≡ then)
+
+-- the step is accepted, and leaves this state there
 abbrev pub Steps : (columns : ℕ) (ground state then : List ℤ) → Type 0
-Steps columns g s then = (stepAnswer (oneRow columns) g s s ≡ 0) × (stepNext (oneRow columns) g s s ≡ then)
+Steps columns g s then = Leaves columns g s 0 then
 
 -- the step is refused with this number, and leaves the list as it was lent
 abbrev pub Refuses : (columns : ℕ) (ground state : List ℤ) (number : ℕ) → Type 0
-Refuses columns g s k = (stepAnswer (oneRow columns) g s s ≡ k) × (stepNext (oneRow columns) g s s ≡ s)
+Refuses columns g s k = Leaves columns g s k s
 
 pub record Starred : Type 0 where
   -- two heights, still: heights stay, the middle velocity is 980,665; and the second step
@@ -87,26 +95,26 @@ pub record Starred : Type 0 where
   pub text-15000 : depthText (pos 15000) ≡ 50 ∷ 32 ∷ 99 ∷ 109 ∷ []
 
 pub starred : Starred
-unfolding oneRow flat two passing three through square four tabulate grid all allAt greatest sum sumAt readGround readState writeState stateLength sumOfHeights sizesFit sidesFit timesFit cardFits lengthsFit groundsFit heightsFit velocitiesFit wallsStill valuesFit firstOf checkAlso checkWith firstRefusal ifDone walled transfer eastTransfer northTransfer forward backward withinLimit newHeight after before eastFace northFace outAhead outBehind outAbove outBelow positive ownShare brought carried rise slope isBank dryBank newVelocity newEast newNorth next limitKept newHeightsFit newVelocitiesFit answer number stepNumberBy nextStateBy stepNumber nextState digitsOf decimal heightText depthText stepAnswer stepNext
+unfolding oneRow flat two passing three through square four tabulate grid all allAt greatest sum sumAt readGround readState writeState stateLength sumOfHeights sizesFit sidesFit timesFit cardFits lengthsFit groundsFit heightsFit velocitiesFit wallsStill valuesFit firstOf checkAlso checkWith firstRefusal ifDone walled transfer eastTransfer northTransfer forward backward withinLimit newHeight after before eastFace northFace outAhead outBehind outAbove outBelow positive ownShare brought carried rise slope isBank dryBank newVelocityBy newEast newNorth next limitKept newHeightsFit newVelocitiesFit answer number stepNumberBy nextStateBy pressure pressureTerm groundTerm textbookRise digitsOf decimal heightText depthText stepAnswerBy stepNextBy
 starred = record {
-  first-step = (refl, refl);
-  second-step = (refl, refl);
-  emptied = (refl, refl);
-  over-limit = (refl, refl);
-  over-limit-west = (refl, refl);
-  passed-through = (refl, refl);
+  first-step = (refl, refl, refl, refl);
+  second-step = (refl, refl, refl, refl);
+  emptied = (refl, refl, refl, refl);
+  over-limit = (refl, refl, refl, refl);
+  over-limit-west = (refl, refl, refl, refl);
+  passed-through = (refl, refl, refl, refl);
   each-once = refl;
   one-crosses = refl;
   transfer-east = refl;
   transfer-west = refl;
-  still-pond = (refl, refl);
-  dry-bank = (refl, refl);
-  bank-level = (refl, refl);
-  bank-below = (refl, refl);
-  bank-wet = (refl, refl);
-  bank-emptied = (refl, refl);
-  bank-stops = (refl, refl);
-  bank-overrun = (refl, refl);
+  still-pond = (refl, refl, refl, refl);
+  dry-bank = (refl, refl, refl, refl);
+  bank-level = (refl, refl, refl, refl);
+  bank-below = (refl, refl, refl, refl);
+  bank-wet = (refl, refl, refl, refl);
+  bank-emptied = (refl, refl, refl, refl);
+  bank-stops = (refl, refl, refl, refl);
+  bank-overrun = (refl, refl, refl, refl);
   text-0 = refl;
   text-9999 = refl;
   text-10000 = refl;

@@ -201,8 +201,8 @@ surfaceL f = f .newL +ℤ f .groundL
 unfoldable pub rise : Face → ℤ
 rise f = surfaceL f -ℤ surfaceK f
 
-unfoldable pub slope : (dt d : ℕ) → Face → ℤ
-slope dt d f = quotZ (pos (9806650 * dt) *ℤ rise f) (pos (1000 * d))
+unfoldable pub slope : (dt d : ℕ) (rise : ℤ) → ℤ
+slope dt d rise = quotZ (pos (9806650 * dt) *ℤ rise) (pos (1000 * d))
 
 -- ---- Dry banks (document 02, [2]): one of a face's cells is dry after the step and its ground is at or above the other's new surface
 
@@ -226,13 +226,23 @@ dryBank f = bankK f || bankL f
 abbrev pub carriedPart : Face → ℤ
 carriedPart f = quotZ (carried f) (newSum f)
 
-unfoldable pub newVelocity : (dt d : ℕ) → Face → ℤ
-newVelocity dt d f = cond (isZero (newSum f) || dryBank f) (pos 0) (carriedPart f -ℤ slope dt d f)
-
--- ---- The next state, over the rule that gives an inner face its new velocity. Document 01's rule, with [2]'s banks, is `newVelocity`.
-
+-- a rule for the new velocity of an inner face
 abbrev pub Rule : Type 0
 Rule = (dt d : ℕ) → Face → ℤ
+
+-- where it is 0 by rule
+abbrev pub halts : Face → Bool
+halts f = isZero (newSum f) || dryBank f
+
+-- over what gives a face its rise: the textbook engine (document 02, [5]) has a way of its own (Textbook.antt)
+unfoldable pub newVelocityBy : (rise : Face → ℤ) → Rule
+newVelocityBy rise dt d f = cond (halts f) (pos 0) (carriedPart f -ℤ slope dt d (rise f))
+
+-- document 01's, with [2]'s banks
+abbrev pub newVelocity : Rule
+newVelocity = newVelocityBy rise
+
+-- ---- The next state, over the rule that gives an inner face its new velocity
 
 -- of each eastward and each northward face; walls stay 0
 unfoldable pub newEast : Rule → Card → Field → Water → Field
@@ -280,8 +290,8 @@ unfoldable pub nextStateBy : Rule → Card → (ground state : List ℤ) → Lis
 nextStateBy rule c g s = writeState c (next rule c (readGround c g) (readState c s))
 
 -- document 01's step, as document 02 reads it
-unfoldable pub stepNumber : Card → (ground state : List ℤ) → ℕ
+abbrev pub stepNumber : Card → (ground state : List ℤ) → ℕ
 stepNumber = stepNumberBy newVelocity
 
-unfoldable pub nextState : Card → (ground state : List ℤ) → List ℤ
+abbrev pub nextState : Card → (ground state : List ℤ) → List ℤ
 nextState = nextStateBy newVelocity
