@@ -98,7 +98,6 @@ keeps-sound-by rule c g s sound k =
     }
 
 pub keeps-sound : (c : Card) (g s : List ℤ) → Sound c g s → stepNumber c g s ≡ 0 → Sound c g (nextState c g s)
-unfolding stepNumber nextState
 keeps-sound = keeps-sound-by newVelocity
 
 pub keeps : (c : Card) (g s : List ℤ) → check c g s ≡ 0 → stepNumber c g s ≡ 0 → check c g (nextState c g s) ≡ 0

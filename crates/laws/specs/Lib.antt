@@ -1,5 +1,6 @@
 pub mod Tests
 pub mod Numbers
+pub mod Products
 pub mod Grids
 pub mod States
 pub mod Checks
@@ -17,6 +18,8 @@ pub mod Follows
 pub mod Walls
 pub mod Still
 pub mod Velocity
+pub mod Textbook
+pub mod Levels
 pub mod Rules
 pub mod Keeps
 pub mod Maxima

@@ -2,11 +2,12 @@
 use Prim.Native.Nat.{ℕ, zero, suc, _+_, _-_, zero-le}
 use mathlib.Core.Path.{_≡_, refl, ap}
 use mathlib.Core.Bool.{Bool, true, false, cond}
-use native.Mathlib.Nat.{suc-ne-zero, zero-div, le-refl, le-trans, le-antisymm}
+use native.Mathlib.Nat.{suc-ne-zero, ne-of-gt, zero-div, le-refl, le-trans, le-antisymm}
 use native.Mathlib.Omega.{arith}
+use borrow.Author.Tests.{ne-eqb}
 use lib.IntN.{ℤ, pos, negsuc, negℤ, natAbs, _+ℤ_}
-use lib.Signed.{leZ, quotZ}
-use lib.Dec.{T, eqb, ltb, eqb→eq, leb→le, le→leb, lt→ltb}
+use lib.Signed.{leZ, ltZ, quotZ}
+use lib.Dec.{T, eqb, ltb, eqb→eq, ltb→lt, leb→le, le→leb, lt→ltb}
 use lib.Arith.{le→nltb}
 use Rattle.laws.specs.Tests.{true-of, false-of}
 -- the signs in sums, products and quotients, which `Fair` needs too
@@ -19,6 +20,10 @@ no-size (negsuc n) e = absurd (suc-ne-zero n e)
 
 pub zero-is : (z : ℤ) → T (eqb (natAbs z) 0) → z ≡ pos 0
 zero-is z t = no-size z (eqb→eq (natAbs z) 0 t)
+
+pub above-is-not-0 : (z : ℤ) → T (ltZ (pos 0) z) → eqb (natAbs z) 0 ≡ false
+above-is-not-0 (pos n) t = ne-eqb n 0 (ne-of-gt (ltb→lt 0 n t))
+above-is-not-0 (negsuc n) t = absurd t
 
 pub abs-neg : (a : ℤ) → natAbs (negℤ a) ≡ natAbs a
 abs-neg (pos zero) = refl

@@ -1,13 +1,14 @@
 -- A mean of velocities, each weighed by a flow, lies on the same side of a number as all those velocities whose weight is above 0: so does the carried part of a
 -- face's new velocity. Said once for both sides, over the order.
 use Prim.Native.Nat.{ℕ, zero, suc, _+_, _*_, _/_, _<_, suc-le-suc, zero-le}
-use mathlib.Core.Path.{_≡_, sym, ap, _∙_, subst}
-use native.Mathlib.Nat.{mul-le-mul-left, add-mul, mul-comm, le-div-iff-mul-le, div-le-of-le-mul}
-use lib.IntN.{ℤ, pos, negsuc, negℤ, _+ℤ_, _*ℤ_, negℤ-+ℤ, negℤ-negℤ, zero-*ℤ}
+use mathlib.Core.Path.{_≡_, sym, subst}
+use native.Mathlib.Nat.{mul-le-mul-left, mul-comm, le-div-iff-mul-le, div-le-of-le-mul}
+use lib.IntN.{ℤ, pos, negsuc, negℤ, _+ℤ_, _*ℤ_, negℤ-negℤ, zero-*ℤ}
 use lib.Signed.{leZ, ltZ, quotZ}
 use lib.Dec.{T, leb→le, le→leb, ltb→lt, lt→ltb}
 use Rattle.rules.specs.declared.Face.{Face}
 use Rattle.rules.specs.Step.{forward, outAhead, outBehind, outAbove, outBelow, positive, newSum, ownShare, flowIn, allFlowIn, brought, carried, carriedPart}
+use Rattle.laws.specs.Products.{sum-times}
 use Rattle.laws.specs.Numbers.{leZ-refl, leZ-trans, leZ-signs, leZ-add, leZ-neg, mul-neg, neg-quot}
 
 -- ---- the order under a weight, and under a quotient towards zero
@@ -55,11 +56,6 @@ at-least = record { same = leZ-refl; through = leZ-trans; add = leZ-add; weigh =
 pub at-most : Side AtMost
 at-most = record { same = leZ-refl; through = λ a b c p q. leZ-trans c b a q p; add = λ a b c d. leZ-add b a d c; weigh = λ n a b. times n b a; divide = under }
 
--- the weights of one number, added up
-weights : (a b : ℕ) (z : ℤ) → pos (a + b) *ℤ z ≡ pos a *ℤ z +ℤ pos b *ℤ z
-weights a b (pos n) = ap pos (add-mul a b n)
-weights a b (negsuc n) = ap (λ (m : ℕ). negℤ (pos m)) (add-mul a b (suc n)) ∙ negℤ-+ℤ (pos (a * suc n)) (pos (b * suc n))
-
 -- P of a neighbour's velocity, if its flow in is above 0
 abbrev pub WhereBrought : (P : ℤ → Type 0) (out v : ℤ) → Type 0
 WhereBrought P out v = T (ltZ (pos 0) (flowIn out)) → P v
@@ -70,7 +66,7 @@ module _ {R : ℤ → ℤ → Type 0} (𝓢 : Side R) (m : ℤ) where
   part (suc n) v h = 𝓢 .weigh (suc n) m v (h (suc-le-suc zero-le))
 
   two : (a b : ℕ) (x y : ℤ) → R (pos a *ℤ m) x → R (pos b *ℤ m) y → R (pos (a + b) *ℤ m) (x +ℤ y)
-  two a b x y p q = rw (weights a b m) (𝓢 .add (pos a *ℤ m) x (pos b *ℤ m) y p q)
+  two a b x y p q = rw (sum-times (pos a) (pos b) m) (𝓢 .add (pos a *ℤ m) x (pos b *ℤ m) y p q)
 
   -- the mean of u, with the weight s, and of four others
   mean : (s : ℤ) (a b c d : ℕ) (u v w x y : ℤ) → T (leZ (pos 0) s) → T (ltZ (pos 0) (s +ℤ pos (a + b + (c + d))))
