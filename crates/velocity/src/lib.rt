@@ -1,13 +1,17 @@
-// The new velocity of one face: what each function returns is a definition of `rules`. Two divisions, none where what it would divide is 0, and neither on a dry bank.
+// The new velocity of one face, by document 01's engine or the textbook's: what each function returns is a definition of `rules`. Two divisions, none where what it
+// would divide is 0, and neither on a dry bank; the textbook's rise takes one more.
 mod banks;
+mod textbook;
 
 use rules::Face;
 ghost use mathlib.Core.Path.{_≡_};
+ghost use lib.IntN.{_-ℤ_};
 ghost use lib.Signed.{quotZ};
 ghost use Rattle.rules.specs.Site.{speedFits};
 ghost use Rattle.rules.specs.Step as step;
+ghost use Rattle.rules.specs.Textbook.{riseOf};
 ghost use Rattle.momentum.specs.Fits.{FaceFits};
-ghost use Rattle.velocity.specs.Fits.{InQuotient, InVelocity, InStillVelocity};
+ghost use Rattle.velocity.specs.Fits.{InQuotient, WetFace, InVelocity, InSlope, InStillVelocity};
 
 // The quotient towards zero. Most faces of a site carry nothing, and a test costs less than a division.
 fn quotient(a: i64, b: i64) -> i64
@@ -32,16 +36,26 @@ fn rise(f: Face) -> i32
     (hl + zl) - (hk + zk)
 }
 
-// Where both new surfaces stand level there is nothing to multiply and nothing to divide.
-fn slope(f: Face, dt: u32, d: u32) -> i64
-    requires { ⌜ InVelocity f dt d ⌝ }
-    ensures { λ r. ⌜ r ≡ step.slope dt d f ⌝ }
+// The same by the engine that is asked for: all that the two do apart from each other.
+pub fn rise_of(f: Face, textbook: bool) -> i64
+    requires { ⌜ WetFace f ⌝ }
+    ensures { λ r. ⌜ r ≡ riseOf textbook f ⌝ }
 {
-    let rise = rise(f);
+    if textbook {
+        return textbook::rise(f);
+    }
+    rise(f) as i64
+}
+
+// Where both new surfaces stand level there is nothing to multiply and nothing to divide.
+fn slope(rise: i64, dt: u32, d: u32) -> i64
+    requires { ⌜ InSlope rise dt d ⌝ }
+    ensures { λ r. ⌜ r ≡ step.slope dt d rise ⌝ }
+{
     if rise == 0 {
         return 0;
     }
-    let pull = 9806650 * (dt as i64) * (rise as i64);
+    let pull = 9806650 * (dt as i64) * rise;
     let below = 1000 * (d as i64);
     pull / below
 }
@@ -56,19 +70,23 @@ fn new_sum(f: Face) -> i32
     k + l
 }
 
-// The new velocity of an inner face. On a dry face no ground is read.
-pub fn new_velocity(f: Face, dt: u32, d: u32) -> i64
-    requires { ⌜ InVelocity f dt d ⌝ }
-    ensures { λ r. ⌜ r ≡ step.newVelocity dt d f ⌝ }
+// Whether the new velocity is 0 by rule: there is no water, and then no ground is read, or one of the cells is a dry bank.
+pub fn halts(f: Face) -> bool
+    requires { ⌜ FaceFits f ⌝ }
+    ensures { λ r. ⌜ r ≡ step.halts f ⌝ }
 {
-    let h = new_sum(f);
-    if h == 0 {
-        return 0;
+    if new_sum(f) == 0 {
+        return true;
     }
-    if banks::dry_bank(f) {
-        return 0;
-    }
-    quotient(momentum::carried(f), h as i64) - slope(f, dt, d)
+    banks::dry_bank(f)
+}
+
+// The new velocity of an inner face elsewhere, once its rise is known.
+pub fn new_velocity(f: Face, rise: i64, dt: u32, d: u32) -> i64
+    requires { ⌜ InVelocity f rise dt d ⌝ }
+    ensures { λ r. ⌜ r ≡ step.carriedPart f -ℤ step.slope dt d rise ⌝ }
+{
+    quotient(momentum::carried(f), new_sum(f) as i64) - slope(rise, dt, d)
 }
 
 // That of a face which carries nothing, as all do between still rows; on a level surface, as of a lake, no bank is looked for. It is a function of its own:
@@ -80,13 +98,14 @@ pub fn still_velocity(f: Face, dt: u32, d: u32) -> i64
     if new_sum(f) == 0 {
         return 0;
     }
-    if rise(f) == 0 {
+    let rise = rise(f);
+    if rise == 0 {
         return 0;
     }
     if banks::dry_bank(f) {
         return 0;
     }
-    0 - slope(f, dt, d)
+    0 - slope(rise as i64, dt, d)
 }
 
 // Whether a new velocity lies in its range.
