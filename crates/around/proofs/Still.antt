@@ -1,14 +1,14 @@
 -- Between two still rows of cells nothing crosses any face, so that a face there carries no momentum: its new velocity is that of the still face.
 use Prim.Native.Nat.{ℕ}
 use mathlib.Core.Path.{_≡_, _∙_, refl, sym}
-use mathlib.Core.Bool.{Bool, not}
+use mathlib.Core.Bool.{Bool, false, not}
 use mathlib.Core.List.{List}
 use lib.IntN.{ℤ}
 use Rattle.rules.specs.declared.Card.{Card}
-use Rattle.rules.specs.declared.Face.{Face}
 use Rattle.rules.specs.Grid.{Field}
 use Rattle.rules.specs.Site.{readGround, readState}
-use Rattle.rules.specs.Step.{carried, rise, slope, dryBank, newVelocity}
+use Rattle.rules.specs.Step.{newVelocity}
+use Rattle.laws.specs.Levels.{SameLevels, same-velocity}
 use Rattle.laws.specs.Still.{NothingCrosses, carries-nothing}
 use Rattle.layout.specs.Ways.{forth}
 use Rattle.still.specs.Rows.{CellsStill}
@@ -24,11 +24,16 @@ pub all-still : (g h : Field) (east : Bool) (i j : ℕ) → NothingCrosses (stil
 unfolding stillFace
 all-still g h east i j = record { u = refl; own = refl; ahead = refl; behind = refl; aboveK = refl; aboveL = refl; belowK = refl; belowL = refl }
 
--- new velocities of two faces that carry as much, between the same levels
-same-velocity : (dt d : ℕ) (f e : Face) → f .newK ≡ e .newK → f .newL ≡ e .newL → f .groundK ≡ e .groundK → f .groundL ≡ e .groundL → carried f ≡ carried e
-    → newVelocity dt d f ≡ newVelocity dt d e
-unfolding newVelocity slope rise dryBank
-same-velocity dt d f e hK hL gK gL a = rw (a, hK, hL, gK, gL)
+module _ {c : Card} {g s t : List ℤ} {east : Bool} {i j : ℕ} (a : AtFace c g s t east i j) where
+  abbrev height : Field
+  height = readState c t .height
+
+  -- the still face, over the tide's heights, has the levels of the inner face
+  pub levels-same : SameLevels (stillFace (readGround c g) height east i j) (innerFace c (readGround c g) (readState c s) east i j)
+  unfolding gatheredFace stillFace
+  levels-same =
+      rw (← gathered-is c (readGround c g) (readState c s) east i j)
+      (record { newK = tide-height (a .flowing) (cell-k a); newL = tide-height (a .flowing) (cell-l a refl refl); groundK = refl; groundL = refl })
 
 module _ {c : Card} {g s t : List ℤ} {east : Bool} {i j : ℕ} (a : AtFace c g s t east i j) (rowK : CellsStill c (readState c s) j) (rowL : CellsStill c (readState c s) (forth (not east) j)) where
   gathered-still : NothingCrosses (gatheredFace c (readGround c g) (readState c s) east i j (forth east i) (forth (not east) j))
@@ -48,20 +53,9 @@ module _ {c : Card} {g s t : List ℤ} {east : Bool} {i j : ℕ} (a : AtFace c g
         belowL = over-still c w (not east) _ _ (near-still rowL l (not east));
       }
 
-  abbrev height : Field
-  height = readState c t .height
-
-  -- the new velocity of the still face, over the tide's heights
-  pub still-velocity : (dt d : ℕ) → newVelocity dt d (stillFace (readGround c g) height east i j) ≡ newVelocity dt d (innerFace c (readGround c g) (readState c s) east i j)
-  unfolding gatheredFace stillFace
+  -- so it has its new velocity
+  pub still-velocity : (dt d : ℕ) → newVelocity dt d (stillFace (readGround c g) (height a) east i j) ≡ newVelocity dt d (innerFace c (readGround c g) (readState c s) east i j)
   still-velocity dt d =
-      let f = a .flowing in
-      let iL = forth east i in
-      let jL = forth (not east) j in
-      rw (← gathered-is c (readGround c g) (readState c s) east i j)
-      (same-velocity dt d (stillFace (readGround c g) height east i j) (gatheredFace c (readGround c g) (readState c s) east i j iL jL)
-      (tide-height f (cell-k a))
-      (tide-height f (cell-l a refl refl))
-      refl
-      refl
-      (carries-nothing (all-still (readGround c g) height east i j) ∙ sym (carries-nothing gathered-still)))
+      same-velocity (levels-same a) false dt d
+      (carries-nothing (all-still (readGround c g) (height a) east i j)
+      ∙ rw (← gathered-is c (readGround c g) (readState c s) east i j) (sym (carries-nothing gathered-still)))

@@ -1,2 +1,3 @@
 pub mod Speeds
+pub mod Gathered
 pub mod Velocities

@@ -1,2 +1,3 @@
 // The second half of a step, the balance of momentum: the new velocities.
+mod inner;
 pub mod passes;

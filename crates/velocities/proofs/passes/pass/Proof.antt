@@ -1,11 +1,14 @@
 -- `pass`: every velocity so far fits and is stored in its place, and one that does not fit decides for all.
 use mathlib.Core.Path.{sym, ap₂, _∙_}
+use mathlib.Core.Bool.{not}
 use Prim.Native.Nat.{_*_, _-_}
 use native.Mathlib.Nat.{le-refl}
 use native.Mathlib.Omega.{arith}
 use borrow.Author.Needs.{needs}
 use borrow.Author.Tests.{not-true, not-false}
 use Rattle.rules.specs.Site.{speedFits}
+use Rattle.rules.specs.Textbook.{engine}
+use Rattle.laws.specs.Tests.{true-of, and-left, and-right, to-T}
 use Rattle.laws.specs.Passes.{place}
 use Rattle.laws.specs.Tested.{RowsTested, CellsTested, begin, begin-row, more, more-rows, done, left}
 use Rattle.still.proofs.Rows.{both-rows}
@@ -15,16 +18,16 @@ use Rattle.velocities.proofs.passes.pass.Statement.{statement}
 use Rattle.velocities.proofs.passes.pass.Tie as tie
 
 abbrev Inv-loop2 : tie.InvT-loop2
-Inv-loop2 card east ground state tide marks part₀ wide high j still i₀ part i = CellsTested wide (newSpeeds card ground state east) speedFits high j part₀ part i
+Inv-loop2 card east ground state tide marks part₀ textbook wide high j still i₀ part i = CellsTested wide (newSpeeds (engine textbook) card ground state east) speedFits high j part₀ part i
 
 abbrev μ-loop2 : tie.MeasureT-loop2
-μ-loop2 card east ground state tide marks part₀ wide high j still i₀ part i = wide - i
+μ-loop2 card east ground state tide marks part₀ textbook wide high j still i₀ part i = wide - i
 
 abbrev Inv-loop : tie.InvT-loop
-Inv-loop card east ground state tide marks part₀ wide high j₀ part j = RowsTested wide (newSpeeds card ground state east) speedFits high part₀ part j
+Inv-loop card east ground state tide marks part₀ textbook wide high j₀ part j = RowsTested wide (newSpeeds (engine textbook) card ground state east) speedFits high part₀ part j
 
 abbrev μ-loop : tie.MeasureT-loop
-μ-loop card east ground state tide marks part₀ wide high j₀ part j = high - j
+μ-loop card east ground state tide marks part₀ textbook wide high j₀ part j = high - j
 
 -- the places, each from the one behind it
 abbrev start : tie.After-high Inv-loop2 μ-loop2 Inv-loop μ-loop → tie.Start Inv-loop2 μ-loop2 Inv-loop μ-loop
@@ -58,7 +61,8 @@ velocity-requires c κs =
     record {
       flowing = start d .pre .flowing;
       face = record { column = omega (arith, d .before .wide .ensures); row = omega (arith, d .high .ensures) };
-      both = λ t. both-rows (start d .pre .marked) _ (omega (arith, d .high .ensures)) (sym (r .both-still .ensures) ∙ t);
+      both = λ t. both-rows (start d .pre .marked) _ (omega (arith, d .high .ensures)) (sym (r .both-still .ensures) ∙ true-of _ (and-right (not (start d .args .textbook)) _ (to-T t)));
+      first-engine = λ t. not-true _ (true-of _ (and-left (not (start d .args .textbook)) _ (to-T t)));
     }
 
 speed-fits-requires : tie.Need-speed-fits-requires Inv-loop2 μ-loop2 Inv-loop μ-loop

@@ -1,0 +1,43 @@
+// The new velocity of an inner face, by document 01's engine or the textbook's. Its levels, four numbers, say whether it is 0 by rule, and give the rise. Only then, and in
+// no still row, the eighteen numbers around it are gathered for what is carried: so the test for the engine holds nothing up that is read after it.
+use around::faces;
+use around::levels;
+use layout::ways;
+use rules::Card;
+ghost use mathlib.Core.Path.{_≡_};
+ghost use Rattle.rules.specs.Site.{readGround, readState};
+ghost use Rattle.rules.specs.Textbook.{engine};
+ghost use Rattle.layout.specs.Ways as Ways;
+ghost use Rattle.around.specs.Faces.{innerFace};
+ghost use Rattle.velocities.specs.Velocities.{OnInner};
+
+// The face of which (k, l) is cell K, in a row that is passed over as still or in any other.
+pub fn velocity(
+    card: Card,
+    east: bool,
+    ground: &[i32],
+    state: &[i32],
+    tide: &[i32],
+    k: usize,
+    l: usize,
+    still: bool,
+    textbook: bool,
+) -> i64
+    requires { ⌜ OnInner card (now ground) (now state) (now tide) east k l still textbook ⌝ }
+    ensures { λ r. ⌜ r ≡ engine textbook (card .dt) (Ways.side card east) (innerFace card (readGround card (now (ground .entry))) (readState card (now (state .entry))) east k l) ⌝ }
+{
+    let levels = levels::still_face(card, east, ground, tide, k, l);
+    if still {
+        return velocity::still_velocity(levels, card.dt, ways::side(card, east));
+    }
+    if velocity::halts(levels) {
+        return 0;
+    }
+    let rise = velocity::rise_of(levels, textbook);
+    velocity::new_velocity(
+        faces::face(card, east, ground, state, tide, k, l),
+        rise,
+        card.dt,
+        ways::side(card, east),
+    )
+}
