@@ -10,7 +10,7 @@ use lib.IntN.{ℤ}
 use lib.ListN.{length, drop}
 use Rattle.rules.specs.declared.Card.{Card}
 use Rattle.rules.specs.Site.{readGround, readState, stateLength}
-use Rattle.rules.specs.Step.{limitKept, newHeightsFit, newVelocity, newVelocitiesFit, answer, number, stepNumberBy, stepNumber, nextState}
+use Rattle.rules.specs.Step.{limitKept, newHeightsFit, Rule, newVelocitiesFit, answer, number, stepNumberBy, nextStateBy}
 use Rattle.laws.specs.Reading.{Holds}
 use Rattle.laws.specs.Tested.{Filled}
 use Rattle.laws.specs.Facts.{Sound}
@@ -39,8 +39,8 @@ marked-state m = record { sound = sound (m .room); marked = m .marked }
 -- the look at the step limit
 module _ {c : Card} {g s t n : List ℤ} {marks : List Bool} (marked : MarkedRoom c g s marks t n) {kept : Bool} (looked : kept ≡ limitKept c (readState c s)) where
   -- 4
-  pub limit-broken : {m : List ℤ} → not kept ≡ true → Advanced c g s 4 m
-  unfolding stepNumber stepNumberBy number answer
+  pub limit-broken : {rule : Rule} {m : List ℤ} → not kept ≡ true → Advanced rule c g s 4 m
+  unfolding stepNumberBy number answer
   limit-broken b = let l : limitKept c (readState c s) ≡ false = sym looked ∙ not-true kept b in record { number = rw l; state = λ e. absurd (suc-ne-zero 3 e) }
 
   pub limited : not kept ≡ false → LimitedRoom c g s marks t n
@@ -65,8 +65,8 @@ module _ {c : Card} {t : List ℤ} (s : List ℤ) (limit : limitKept c (readStat
   fit-is = looked ∙ tide-heights s holds
 
   -- 5
-  pub height-broken : not fit ≡ true → {g m : List ℤ} → Advanced c g s 5 m
-  unfolding stepNumber stepNumberBy number answer
+  pub height-broken : not fit ≡ true → {rule : Rule} {g m : List ℤ} → Advanced rule c g s 5 m
+  unfolding stepNumberBy number answer
   height-broken b =
       let h : newHeightsFit c (readState c s) ≡ false = sym fit-is ∙ not-true fit b in
       record { number = rw (limit, h); state = λ e. absurd (suc-ne-zero 4 e) }
@@ -76,18 +76,18 @@ module _ {c : Card} {t : List ℤ} (s : List ℤ) (limit : limitKept c (readStat
       record { flowing = record { sound = sound; limit = limit; heights = sym fit-is ∙ not-false fit b; tide = holds }; marked = m; long = long }
 
 -- the new velocities
-module _ {c : Card} {g s t : List ℤ} (flowing : Flowing c g s t) {fast : Bool} {m : List ℤ} (filled : Filled (newVelocitiesFit newVelocity c (readGround c g) (readState c s)) (nextState c g s) fast m) where
+module _ {rule : Rule} {c : Card} {g s t : List ℤ} (flowing : Flowing c g s t) {fast : Bool} {m : List ℤ} (filled : Filled (newVelocitiesFit rule c (readGround c g) (readState c s)) (nextStateBy rule c g s) fast m) where
   -- 7
-  pub speed-broken : not fast ≡ true → Advanced c g s 7 m
-  unfolding stepNumber stepNumberBy number answer
+  pub speed-broken : not fast ≡ true → Advanced rule c g s 7 m
+  unfolding stepNumberBy number answer
   speed-broken b =
-      let v : newVelocitiesFit newVelocity c (readGround c g) (readState c s) ≡ false = sym (filled .every-one) ∙ not-true fast b in
+      let v : newVelocitiesFit rule c (readGround c g) (readState c s) ≡ false = sym (filled .every-one) ∙ not-true fast b in
       record { number = rw (flowing .limit, flowing .heights, v); state = λ e. absurd (suc-ne-zero 6 e) }
 
   -- 0
-  pub all-kept : not fast ≡ false → Advanced c g s 0 m
-  unfolding stepNumber stepNumberBy number answer
+  pub all-kept : not fast ≡ false → Advanced rule c g s 0 m
+  unfolding stepNumberBy number answer
   all-kept b =
       let yes : fast ≡ true = not-false fast b in
-      let v : newVelocitiesFit newVelocity c (readGround c g) (readState c s) ≡ true = sym (filled .every-one) ∙ yes in
+      let v : newVelocitiesFit rule c (readGround c g) (readState c s) ≡ true = sym (filled .every-one) ∙ yes in
       record { number = rw (flowing .limit, flowing .heights, v); state = λ e. filled .is yes }

@@ -7,7 +7,7 @@ use lib.IntN.{ℤ}
 use lib.ListN.{length}
 use Rattle.rules.specs.declared.Card.{Card}
 use Rattle.rules.specs.Site.{readState, stateLength}
-use Rattle.rules.specs.Step.{limitKept, stepNumber, nextState}
+use Rattle.rules.specs.Step.{Rule, limitKept, stepNumberBy, nextStateBy}
 use Rattle.laws.specs.Facts.{Sound}
 use Rattle.still.specs.Marks.{Marked}
 use Rattle.around.specs.Faces.{Flowing}
@@ -37,7 +37,7 @@ pub record NextRoom (c : Card) (g s t : List ℤ) (marks : List Bool) (n : List 
   pub marked : Marked c s marks
   pub long : length n ≡ stateLength c
 
--- its number, and where that is 0, its next state
-pub record Advanced (c : Card) (g s : List ℤ) (r : ℕ) (n : List ℤ) : Type 0 where
-  pub number : r ≡ stepNumber c g s
-  pub state : r ≡ 0 → n ≡ nextState c g s
+-- its number, and where that is 0, its next state, by a rule for new velocities
+pub record Advanced (rule : Rule) (c : Card) (g s : List ℤ) (r : ℕ) (n : List ℤ) : Type 0 where
+  pub number : r ≡ stepNumberBy rule c g s
+  pub state : r ≡ 0 → n ≡ nextStateBy rule c g s

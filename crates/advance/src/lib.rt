@@ -1,6 +1,7 @@
 // One step of a sound site, with a tide to work in. The still rows are marked first, and passed over by all that follows.
 ghost use Rattle.rules.specs.Site.{readGround, readState};
-ghost use Rattle.rules.specs.Step.{newVelocity, newVelocitiesFit, nextState};
+ghost use Rattle.rules.specs.Step.{newVelocitiesFit, nextStateBy};
+ghost use Rattle.rules.specs.Textbook.{engine};
 ghost use Rattle.laws.specs.Tested.{Filled};
 ghost use Rattle.advance.specs.Advance.{StepRoom, MarkedRoom, LimitedRoom, NextRoom, Advanced};
 use rules::Card;
@@ -13,15 +14,24 @@ fn fill_next(
     tide: &[i32],
     marks: &[bool],
     next: &mut [i32],
+    textbook: bool,
 ) -> bool
     requires { ⌜ NextRoom card (now ground) (now state) (now tide) (now marks) (now next) ⌝ }
-    ensures { λ r. ⌜ Filled (newVelocitiesFit newVelocity card (readGround card (now (ground .entry))) (readState card (now (state .entry)))) (nextState card (now (ground .entry)) (now (state .entry))) r (now (next .exit)) ⌝ }
+    ensures { λ r. ⌜ Filled (newVelocitiesFit (engine textbook) card (readGround card (now (ground .entry))) (readState card (now (state .entry)))) (nextStateBy (engine textbook) card (now (ground .entry)) (now (state .entry))) r (now (next .exit)) ⌝ }
 {
     let columns = card.columns as usize;
     let rows = card.rows as usize;
     let cells = rows * columns;
     lists::copy(&mut next[..cells], &tide[..cells]);
-    velocities::passes::velocities(card, ground, state, tide, marks, &mut next[cells..])
+    velocities::passes::velocities(
+        card,
+        ground,
+        state,
+        tide,
+        marks,
+        &mut next[cells..],
+        textbook,
+    )
 }
 
 // The second half of a step, once the tide is at hand: 7, or 0 and the next state.
@@ -32,11 +42,12 @@ fn move_on(
     tide: &[i32],
     marks: &[bool],
     next: &mut [i32],
+    textbook: bool,
 ) -> u32
     requires { ⌜ NextRoom card (now ground) (now state) (now tide) (now marks) (now next) ⌝ }
-    ensures { λ r. ⌜ Advanced card (now (ground .entry)) (now (state .entry)) r (now (next .exit)) ⌝ }
+    ensures { λ r. ⌜ Advanced (engine textbook) card (now (ground .entry)) (now (state .entry)) r (now (next .exit)) ⌝ }
 {
-    if !fill_next(card, ground, state, tide, marks, next) {
+    if !fill_next(card, ground, state, tide, marks, next, textbook) {
         return 7;
     }
     0
@@ -50,16 +61,17 @@ fn flow(
     marks: &[bool],
     tide: &mut [i32],
     next: &mut [i32],
+    textbook: bool,
 ) -> u32
     requires { ⌜ LimitedRoom card (now ground) (now state) (now marks) (now tide) (now next) ⌝ }
-    ensures { λ r. ⌜ Advanced card (now (ground .entry)) (now (state .entry)) r (now (next .exit)) ⌝ }
+    ensures { λ r. ⌜ Advanced (engine textbook) card (now (ground .entry)) (now (state .entry)) r (now (next .exit)) ⌝ }
 {
     transfers::transfers(card, state, marks, tide);
     heights::tide::heights(card, state, tide);
     if !heights::tide::heights_fit(card, tide) {
         return 5;
     }
-    move_on(card, ground, state, tide, marks, next)
+    move_on(card, ground, state, tide, marks, next, textbook)
 }
 
 // The whole step, once the still rows are marked.
@@ -70,22 +82,30 @@ fn advance_marked(
     marks: &[bool],
     tide: &mut [i32],
     next: &mut [i32],
+    textbook: bool,
 ) -> u32
     requires { ⌜ MarkedRoom card (now ground) (now state) (now marks) (now tide) (now next) ⌝ }
-    ensures { λ r. ⌜ Advanced card (now (ground .entry)) (now (state .entry)) r (now (next .exit)) ⌝ }
+    ensures { λ r. ⌜ Advanced (engine textbook) card (now (ground .entry)) (now (state .entry)) r (now (next .exit)) ⌝ }
 {
     if !heights::look::limit_kept(card, state, marks) {
         return 4;
     }
-    flow(card, ground, state, marks, tide, next)
+    flow(card, ground, state, marks, tide, next, textbook)
 }
 
-// The step's number. Where it is 0, `next` is the next state; otherwise nothing is promised of its words.
-pub fn advance(card: Card, ground: &[i32], state: &[i32], tide: &mut [i32], next: &mut [i32]) -> u32
+// The step's number, by document 01's engine or the textbook's. Where it is 0, `next` is the next state; otherwise nothing is promised of its words.
+pub fn advance(
+    card: Card,
+    ground: &[i32],
+    state: &[i32],
+    tide: &mut [i32],
+    next: &mut [i32],
+    textbook: bool,
+) -> u32
     requires { ⌜ StepRoom card (now ground) (now state) (now tide) (now next) ⌝ }
-    ensures { λ r. ⌜ Advanced card (now (ground .entry)) (now (state .entry)) r (now (next .exit)) ⌝ }
+    ensures { λ r. ⌜ Advanced (engine textbook) card (now (ground .entry)) (now (state .entry)) r (now (next .exit)) ⌝ }
 {
     let mut marks = still::no_marks();
     still::mark(card, state, &mut marks);
-    advance_marked(card, ground, state, &marks, tide, next)
+    advance_marked(card, ground, state, &marks, tide, next, textbook)
 }

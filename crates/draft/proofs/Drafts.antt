@@ -8,9 +8,9 @@ use lib.ListN.{length, take, drop}
 use lib.Seq.{length-take-le, take-at}
 use Rattle.rules.specs.declared.Card.{Card}
 use Rattle.rules.specs.Site.{stateLength, checkWith, ifDone}
-use Rattle.rules.specs.Step.{stepNumber, nextState}
-use Rattle.rules.specs.Calls.{stepAnswer, stepNext}
-use Rattle.rules.specs.Contracts.{StepContract}
+use Rattle.rules.specs.Step.{Rule, stepNumberBy, nextStateBy}
+use Rattle.rules.specs.Calls.{stepAnswerBy, stepNextBy}
+use Rattle.rules.specs.Contracts.{StepContractBy}
 use Rattle.laws.specs.Facts.{SoundWith, sound-facts, sound-check-with}
 use Rattle.laws.specs.Outcomes.{first-passed, if-same}
 use Rattle.lists.specs.Renewed.{renewed}
@@ -36,15 +36,15 @@ module _ {c : Card} {g s t d n : List ℤ} (drafting : Drafting c g s t d n) whe
 
   -- ---- what was worked out in the front of the draft
 
-  pub front : {r : ℕ} {made : List ℤ} → Advanced c g s r made → length made ≡ length (take (length n) d) → Advanced c g s r (take (length n) (made ++ drop (length n) d))
+  pub front : {rule : Rule} {r : ℕ} {made : List ℤ} → Advanced rule c g s r made → length made ≡ length (take (length n) d) → Advanced rule c g s r (take (length n) (made ++ drop (length n) d))
   front {r} {made} a long =
       let whole : take (length n) (made ++ drop (length n) d) ≡ made = take-at made (drop (length n) d) (length n) (long ∙ draft-part) in
       record { number = a .number; state = λ z. whole ∙ a .state z }
 
 -- ---- the answer
 
-pub answered : {c : Card} {g s n : List ℤ} → SoundWith c g s n → {r : ℕ} (list : List ℤ) {m : List ℤ} → m ≡ renewed r list n → Advanced c g s r (take (length n) list) → StepContract c g s n r m
-unfolding stepAnswer stepNext renewed
-answered {c} {g} {s} {n} site {r} list {m} is a =
-    let k : r ≡ stepAnswer c g s n = a .number ∙ sym (first-passed (checkWith c g s (length n)) (stepNumber c g s) (sound-check-with c g s n site)) in
-    record { answer = k; next-exit = is ∙ if-same r n (a .state) ∙ ap (λ (x : ℕ). ifDone x (nextState c g s) n) k }
+pub answered : {rule : Rule} {c : Card} {g s n : List ℤ} → SoundWith c g s n → {r : ℕ} (list : List ℤ) {m : List ℤ} → m ≡ renewed r list n → Advanced rule c g s r (take (length n) list) → StepContractBy rule c g s n r m
+unfolding stepAnswerBy stepNextBy renewed
+answered {rule} {c} {g} {s} {n} site {r} list {m} is a =
+    let k : r ≡ stepAnswerBy rule c g s n = a .number ∙ sym (first-passed (checkWith c g s (length n)) (stepNumberBy rule c g s) (sound-check-with c g s n site)) in
+    record { answer = k; next-exit = is ∙ if-same r n (a .state) ∙ ap (λ (x : ℕ). ifDone x (nextStateBy rule c g s) n) k }

@@ -9,9 +9,9 @@ use lib.IntN.{ℤ}
 use lib.ListN.{length}
 use Rattle.rules.specs.declared.Card.{Card}
 use Rattle.rules.specs.Site.{checkWith}
-use Rattle.rules.specs.Step.{stepNumber, nextState}
-use Rattle.rules.specs.Calls.{stepAnswer, stepNext}
-use Rattle.rules.specs.Contracts.{StepContract}
+use Rattle.rules.specs.Step.{Rule, stepNumberBy, nextStateBy}
+use Rattle.rules.specs.Calls.{stepAnswerBy, stepNextBy}
+use Rattle.rules.specs.Contracts.{StepContractBy}
 use Rattle.laws.specs.Facts.{SoundWith, sound-facts}
 use Rattle.laws.specs.Outcomes.{first-refused, if-refused}
 
@@ -29,8 +29,8 @@ room-grows room {long} h most = pick (leb room 800) (leb→le room 800)
 
 -- ---- 1 to 3: the next state as lent
 
-pub refused-early : {c : Card} {g s n : List ℤ} {r : ℕ} → r ≡ checkWith c g s (length n) → (r ≡ 0 → ⊥) → StepContract c g s n r n
-unfolding stepNext stepAnswer
-refused-early {c} {g} {s} {n} {r} e h =
-    let k : r ≡ stepAnswer c g s n = e ∙ sym (first-refused (checkWith c g s (length n)) (stepNumber c g s) (λ z. h (e ∙ z))) in
-    record { answer = k; next-exit = sym (if-refused (stepAnswer c g s n) (nextState c g s) n (λ z. h (k ∙ z))) }
+pub refused-early : {rule : Rule} {c : Card} {g s n : List ℤ} {r : ℕ} → r ≡ checkWith c g s (length n) → (r ≡ 0 → ⊥) → StepContractBy rule c g s n r n
+unfolding stepNextBy stepAnswerBy
+refused-early {rule} {c} {g} {s} {n} {r} e h =
+    let k : r ≡ stepAnswerBy rule c g s n = e ∙ sym (first-refused (checkWith c g s (length n)) (stepNumberBy rule c g s) (λ z. h (e ∙ z))) in
+    record { answer = k; next-exit = sym (if-refused (stepAnswerBy rule c g s n) (nextStateBy rule c g s) n (λ z. h (k ∙ z))) }

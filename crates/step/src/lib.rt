@@ -2,39 +2,40 @@
 ghost use mathlib.Core.Path.{_≡_};
 ghost use mathlib.Core.Bool.{cond};
 ghost use lib.Dec.{leb};
-ghost use Rattle.rules.specs.Contracts.{StepContract};
+ghost use Rattle.rules.specs.Contracts.{StepContractBy};
+ghost use Rattle.rules.specs.Textbook.{engine};
 ghost use Rattle.laws.specs.Facts.{SoundWith};
 ghost use Rattle.step.specs.Held.{Held};
 use rules::Card;
 
 // A step on the shortest lists, which hold any site of at most 16×16 cells.
-fn smallest_step(card: Card, ground: &[i32], state: &[i32], next: &mut [i32]) -> u32
+fn smallest_step(card: Card, ground: &[i32], state: &[i32], next: &mut [i32], textbook: bool) -> u32
     requires { ⌜ Held 800 card (now ground) (now state) (now next) ⌝ }
-    ensures { λ r. ⌜ StepContract card (now (ground .entry)) (now (state .entry)) (now (next .entry)) r (now (next .exit)) ⌝ }
+    ensures { λ r. ⌜ StepContractBy (engine textbook) card (now (ground .entry)) (now (state .entry)) (now (next .entry)) r (now (next .exit)) ⌝ }
 {
     let mut tide = lists::shortest();
     let mut draft = lists::shortest();
-    draft::step_by_draft(card, ground, state, &mut tide, &mut draft, next)
+    draft::step_by_draft(card, ground, state, &mut tide, &mut draft, next, textbook)
 }
 
 // A step on short lists, which hold any site of at most 32×32 cells.
-fn small_step(card: Card, ground: &[i32], state: &[i32], next: &mut [i32]) -> u32
+fn small_step(card: Card, ground: &[i32], state: &[i32], next: &mut [i32], textbook: bool) -> u32
     requires { ⌜ Held 3136 card (now ground) (now state) (now next) ⌝ }
-    ensures { λ r. ⌜ StepContract card (now (ground .entry)) (now (state .entry)) (now (next .entry)) r (now (next .exit)) ⌝ }
+    ensures { λ r. ⌜ StepContractBy (engine textbook) card (now (ground .entry)) (now (state .entry)) (now (next .entry)) r (now (next .exit)) ⌝ }
 {
     let mut tide = lists::short();
     let mut draft = lists::short();
-    draft::step_by_draft(card, ground, state, &mut tide, &mut draft, next)
+    draft::step_by_draft(card, ground, state, &mut tide, &mut draft, next, textbook)
 }
 
 // A step on lists that hold any site.
-fn large_step(card: Card, ground: &[i32], state: &[i32], next: &mut [i32]) -> u32
+fn large_step(card: Card, ground: &[i32], state: &[i32], next: &mut [i32], textbook: bool) -> u32
     requires { ⌜ Held 49408 card (now ground) (now state) (now next) ⌝ }
-    ensures { λ r. ⌜ StepContract card (now (ground .entry)) (now (state .entry)) (now (next .entry)) r (now (next .exit)) ⌝ }
+    ensures { λ r. ⌜ StepContractBy (engine textbook) card (now (ground .entry)) (now (state .entry)) (now (next .entry)) r (now (next .exit)) ⌝ }
 {
     let mut tide = lists::longest();
     let mut draft = lists::longest();
-    draft::step_by_draft(card, ground, state, &mut tide, &mut draft, next)
+    draft::step_by_draft(card, ground, state, &mut tide, &mut draft, next, textbook)
 }
 
 // The next larger room.
@@ -49,29 +50,36 @@ fn more_room(room: usize) -> usize
 
 // A step on lists that have room for so many words; where the state has more, it calls itself for the next larger lists. The compiler keeps a function that
 // calls itself, and the lists of those that it calls, out of its caller's stack frame: so a refused step takes no list's stack, and a small one no long list's.
-fn step_within(card: Card, ground: &[i32], state: &[i32], next: &mut [i32], room: usize) -> u32
+fn step_within(
+    card: Card,
+    ground: &[i32],
+    state: &[i32],
+    next: &mut [i32],
+    room: usize,
+    textbook: bool,
+) -> u32
     requires { ⌜ SoundWith card (now ground) (now state) (now next) ⌝ }
-    ensures { λ r. ⌜ StepContract card (now (ground .entry)) (now (state .entry)) (now (next .entry)) r (now (next .exit)) ⌝ }
+    ensures { λ r. ⌜ StepContractBy (engine textbook) card (now (ground .entry)) (now (state .entry)) (now (next .entry)) r (now (next .exit)) ⌝ }
 {
     if next.len() > room {
-        return step_within(card, ground, state, next, more_room(room));
+        return step_within(card, ground, state, next, more_room(room), textbook);
     }
     if room <= 800 {
-        return smallest_step(card, ground, state, next);
+        return smallest_step(card, ground, state, next, textbook);
     }
     if room <= 3136 {
-        return small_step(card, ground, state, next);
+        return small_step(card, ground, state, next, textbook);
     }
-    large_step(card, ground, state, next)
+    large_step(card, ground, state, next, textbook)
 }
 
-// One step.
-pub fn step(card: Card, ground: &[i32], state: &[i32], next: &mut [i32]) -> u32
-    ensures { λ r. ⌜ StepContract card (now (ground .entry)) (now (state .entry)) (now (next .entry)) r (now (next .exit)) ⌝ }
+// One step, by document 01's engine or the textbook's.
+pub fn step(card: Card, ground: &[i32], state: &[i32], next: &mut [i32], textbook: bool) -> u32
+    ensures { λ r. ⌜ StepContractBy (engine textbook) card (now (ground .entry)) (now (state .entry)) (now (next .entry)) r (now (next .exit)) ⌝ }
 {
     let refusal = site::check_with(card, ground, state, next.len());
     if refusal != 0 {
         return refusal;
     }
-    step_within(card, ground, state, next, 800)
+    step_within(card, ground, state, next, 800, textbook)
 }

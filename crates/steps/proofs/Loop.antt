@@ -11,7 +11,7 @@ use Rattle.rules.specs.declared.Card.{Card}
 use Rattle.rules.specs.declared.Tally.{Tally}
 use Rattle.rules.specs.Grid.{greatest}
 use Rattle.rules.specs.Site.{cells, stateLength}
-use Rattle.rules.specs.Step.{stepNumber, nextState}
+use Rattle.rules.specs.Step.{newVelocity, stepNumber, nextState}
 use Rattle.rules.specs.Run.{Outcome, peak, started, accepted, stoppedFor, siteStep, runAll}
 use Rattle.laws.specs.Facts.{Sound, sound-facts}
 use Rattle.laws.specs.Keeps.{keeps-sound}
@@ -52,7 +52,7 @@ begins c g s h e p = record {
 
 module _ {c : Card} {g s₀ s : List ℤ} {t : Tally} {done : ℕ} (r : Running c g s₀ s t done) where
   -- a step that is taken: its number k, and what it made
-  module _ (l : done < c .steps) (k : ℕ) {made : List ℤ} (a : Advanced c g s k made) where
+  module _ (l : done < c .steps) (k : ℕ) {made : List ℤ} (a : Advanced newVelocity c g s k made) where
     pub stops : (k ≡ 0 → ⊥) → (n : ℕ) → n ≡ t .steps → Ended (runAll c g s₀) (record { steps = n; reason = k; top = t .top }) s
     unfolding stoppedFor
     stops h n e =

@@ -24,7 +24,7 @@ pub fn steps(
     };
     let mut done: u32 = 0;
     while done < wanted {
-        let number = advance::advance(card, ground, state, tide, scratch);
+        let number = advance::advance(card, ground, state, tide, scratch, false);
         if number != 0 {
             tally.reason = number;
             return tally;

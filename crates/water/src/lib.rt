@@ -1,6 +1,6 @@
 // What a host may call. Every call takes any input at all: it checks what it was given and answers by document 01's numbers, and its contract
 // (rules, Contracts.antt) fixes the answer and what each list that was lent to be written holds at exit.
-ghost use Rattle.rules.specs.Contracts.{StepContract, RunContract, SearchContract, RowSearchContract, ReadContract, WriteContract, TextContract};
+ghost use Rattle.rules.specs.Contracts.{StepContract, TextbookContract, RunContract, SearchContract, RowSearchContract, ReadContract, WriteContract, TextContract};
 use rules::Card;
 use rules::Chamber;
 use rules::Found;
@@ -17,7 +17,21 @@ pub use text::depth_text;
 pub extern "C" fn water_step(card: Card, ground: &[i32], state: &[i32], next: &mut [i32]) -> u32
     ensures { λ r. ⌜ StepContract card (now (ground .entry)) (now (state .entry)) (now (next .entry)) r (now (next .exit)) ⌝ }
 {
-    step::step(card, ground, state, next)
+    step::step(card, ground, state, next, false)
+}
+
+// The same by the textbook engine, which keeps the pressure term and the ground term of a new velocity apart as the paper does. Every answer and every list is
+// that of water_step.
+#[no_mangle]
+pub extern "C" fn water_step_textbook(
+    card: Card,
+    ground: &[i32],
+    state: &[i32],
+    next: &mut [i32],
+) -> u32
+    ensures { λ r. ⌜ TextbookContract card (now (ground .entry)) (now (state .entry)) (now (next .entry)) r (now (next .exit)) ⌝ }
+{
+    step::step(card, ground, state, next, true)
 }
 
 // A run: steps done, reason and top; the last accepted state in the place of the first, and the scratch list all zero. Reasons 1 to 3: both lists as lent.

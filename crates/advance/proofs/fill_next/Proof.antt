@@ -8,7 +8,7 @@ use lib.IntN.{ℤ}
 use lib.ListN.{length, take, drop}
 use lib.Seq.{length-front}
 use Rattle.rules.specs.Site.{writeState}
-use Rattle.rules.specs.Step.{next, nextStateBy, nextState}
+use Rattle.rules.specs.Step.{next, nextStateBy}
 use Rattle.laws.specs.Grids.{length-grid}
 use Rattle.laws.specs.Places.{Room, room}
 use Rattle.laws.specs.Parts.{two-parts, length-part, back-length}
@@ -108,7 +108,7 @@ same-length : tie.Need-same-length
 same-length c = search needs
 
 returns : tie.Need-returns
-unfolding nextState nextStateBy next writeState tide nextVelocities
+unfolding nextStateBy next writeState tide nextVelocities
 returns c =
     let d = fronted (c .before) in
     let p = start d .pre .flowing .tide .is in
