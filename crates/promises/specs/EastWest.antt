@@ -35,7 +35,7 @@ module _ (c : Card) (g s : List ℤ) where
   }
 
   next-mirrored : nextState c (eastWest .ground c g) (eastWest .state c s) ≡ eastWest .state c (nextState c g s)
-  unfolding nextState nextStateBy
+  unfolding nextStateBy
   next-mirrored =
       let n = next newVelocity c (readGround c g) (readState c s) in
       let m = next-mirror c (readState c s) (readState c (eastWest .state c s)) state-mirrored (readGround c g) (readGround c (eastWest .ground c g)) ground-mirrored newVelocity fair in
@@ -52,7 +52,7 @@ module _ (c : Card) (g s : List ℤ) where
       (λ i j hi hj. (c .columns - 1 - i, j, omega arith, hj, sym (state-mirrored .height (c .columns - 1 - i) i j (omega arith) hj)))
 
   number-mirrored : stepNumber c (eastWest .ground c g) (eastWest .state c s) ≡ stepNumber c g s
-  unfolding stepNumber stepNumberBy
+  unfolding stepNumberBy
   number-mirrored = numbers c (readState c s) (readState c (eastWest .state c s)) state-mirrored (readGround c g) (readGround c (eastWest .ground c g)) ground-mirrored newVelocity fair
 
   check-mirrored : check c g s ≡ 0 → check c (eastWest .ground c g) (eastWest .state c s) ≡ 0

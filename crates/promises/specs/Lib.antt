@@ -14,6 +14,7 @@ pub mod AtRest
 pub mod WhyStill
 pub mod StillWater
 pub mod Pond
+pub mod BothEngines
 pub mod Endings
 pub mod Slices
 pub mod SiteSlices

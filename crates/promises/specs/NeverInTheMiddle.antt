@@ -28,7 +28,7 @@ answers true true false = tooFast
 answers true true true = done
 
 pub step-numbers : (c : Card) (g s : List ℤ) → OfAStep (stepNumber c g s)
-unfolding stepNumber stepNumberBy number
+unfolding stepNumberBy number
 step-numbers c g s =
     let w = readState c s in
     answers (limitKept c w) (newHeightsFit c w) (newVelocitiesFit newVelocity c (readGround c g) w)

@@ -15,7 +15,7 @@ use Rattle.rules.specs.Grid.{Field}
 use Rattle.rules.specs.Site.{Water, checkAlso, check, checkWith, firstRefusal, readGround, readState}
 use Rattle.rules.specs.Step.{Rule, eastFace, northFace, ownShare, newVelocity, limitKept, newHeightsFit, newVelocitiesFit, answer, number, stepNumberBy, stepNumber, nextState}
 use Rattle.rules.specs.Run.{Stepping, peak, siteStep, runFrom, runAfter, run}
-use Rattle.rules.specs.Calls.{stepAnswer, runOutcome, runTally}
+use Rattle.rules.specs.Calls.{stepAnswer, runOutcome, runTally, stepAnswerBy}
 use Rattle.laws.specs.Tests.{true-of, to-T}
 use Rattle.laws.specs.Checks.{at-most-3}
 use Rattle.laws.specs.Facts.{card-facts, sound-depths, check-sound, check-of-with}
@@ -100,7 +100,6 @@ unfolding numberWith6 stepNumberBy number
 number-without-6 rule c g s e = passed-over (limitKept c (readState c s)) (newHeightsFit c (readState c s)) _ _ (shares-fit c g s e)
 
 follows-without-6 : (c : Card) (g : List ℤ) → Follows (λ s. check c g s ≡ 0) (λ k. Unit {0}) (λ s. s) (siteStep c g) (stepWith6 c g)
-unfolding stepNumber
 follows-without-6 c g = record {
   kept = keeps c g;
   done = tt;
@@ -128,7 +127,7 @@ behind-checks (suc k) n l h e = omega (arith, l, e)
 
 module _ (c : Card) (g s lent : List ℤ) where
   pub answer-without-6 : stepAnswer c g s lent ≡ firstRefusal (checkWith c g s (length lent)) (numberWith6 newVelocity c (readGround c g) (readState c s))
-  unfolding stepAnswer stepNumber
+  unfolding stepAnswerBy
   answer-without-6 = first-same (checkWith c g s (length lent)) (λ z. sym (number-without-6 newVelocity c g s (check-of-with c g s lent z)))
 
   checks-low : checkWith c g s (length lent) ≤ 3
@@ -136,7 +135,7 @@ module _ (c : Card) (g s lent : List ℤ) where
   checks-low = at-most-3 _ _ _
 
   pub step-never-6 : stepAnswer c g s lent ≡ 6 → ⊥
-  unfolding stepAnswer
+  unfolding stepAnswerBy
   step-never-6 = behind-checks (checkWith c g s (length lent)) (stepNumber c g s) checks-low (not-6 (step-numbers c g s))
 
   reasons : (k : ℕ) → k ≤ 3 → (k ≡ 0 → check c g s ≡ 0) → runAfter k c g s .tally .reason ≡ 6 → ⊥

@@ -15,7 +15,7 @@ use Rattle.rules.specs.Grid.{all, allAt}
 use Rattle.rules.specs.Site.{Water, check, checkWith, firstRefusal, readGround, readState}
 use Rattle.rules.specs.Step.{Rule, withinLimit, newVelocity, limitKept, newHeightsFit, newVelocitiesFit, answer, number, stepNumberBy, stepNumber, nextState}
 use Rattle.rules.specs.Run.{Stepping, peak, runFrom, siteStep}
-use Rattle.rules.specs.Calls.{stepAnswer, stepNext, runOutcome}
+use Rattle.rules.specs.Calls.{stepAnswer, stepNext, runOutcome, stepAnswerBy}
 use Rattle.rules.specs.Starred.{oneRow, flat, two, passing, through}
 use Rattle.laws.specs.Grids.{allAt-at, allAt-intro}
 use Rattle.laws.specs.Outward.{forward-size, backward-size}
@@ -85,7 +85,7 @@ unfolding oldNumberBy stepNumberBy number
 number-stays-by rule c g s e = answer-same (oldLimitKept c (readState c s)) (limitKept c (readState c s)) _ _ _ (site-keeps c (readState c s)) (shares-fit c g s e)
 
 pub number-stays : (c : Card) (g s : List ℤ) → check c g s ≡ 0 → (oldNumber c g s ≡ 4 → ⊥) → stepNumber c g s ≡ oldNumber c g s
-unfolding oldNumber stepNumber
+unfolding oldNumber
 number-stays = number-stays-by newVelocity
 
 -- a step that was done was not refused by 4
@@ -110,7 +110,7 @@ follows-old c g = record {
 -- of the call, for every input
 pub answer-stays : (c : Card) (g s next : List ℤ) → (firstRefusal (checkWith c g s (length next)) (oldNumber c g s) ≡ 4 → ⊥)
     → stepAnswer c g s next ≡ firstRefusal (checkWith c g s (length next)) (oldNumber c g s)
-unfolding stepAnswer
+unfolding stepAnswerBy
 answer-stays c g s next n =
     let k = checkWith c g s (length next) in
     first-same k (λ z. number-stays c g s (check-of-with c g s next z) (λ f. n (first-passed k (oldNumber c g s) z ∙ f)))

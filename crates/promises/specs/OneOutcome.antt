@@ -10,11 +10,12 @@ use Rattle.rules.specs.declared.Chamber.{Chamber}
 use Rattle.rules.specs.declared.Found.{Found}
 use Rattle.rules.specs.declared.Heard.{Heard}
 use Rattle.rules.specs.declared.Wrote.{Wrote}
-use Rattle.rules.specs.Contracts.{StepContract, RunContract, SearchContract, RowSearchContract, ReadContract, WriteContract, TextContract}
+use Rattle.rules.specs.Step.{Rule}
+use Rattle.rules.specs.Contracts.{StepContractBy, RunContract, SearchContract, RowSearchContract, ReadContract, WriteContract, TextContract}
 
--- ---- step
+-- ---- step, by either engine
 
-pub one-step : {c : Card} {g s n : List ℤ} {k k′ : ℕ} {v v′ : List ℤ} → StepContract c g s n k v → StepContract c g s n k′ v′ → (k ≡ k′) × (v ≡ v′)
+pub one-step : {rule : Rule} {c : Card} {g s n : List ℤ} {k k′ : ℕ} {v v′ : List ℤ} → StepContractBy rule c g s n k v → StepContractBy rule c g s n k′ v′ → (k ≡ k′) × (v ≡ v′)
 one-step p q = (cc, cc)
 
 -- ---- run

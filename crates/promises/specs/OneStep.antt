@@ -9,7 +9,7 @@ use Rattle.rules.specs.declared.Card.{Card}
 use Rattle.rules.specs.Site.{checkWith, firstRefusal, ifDone}
 use Rattle.rules.specs.Step.{stepNumber, nextState}
 use Rattle.rules.specs.Run.{SteppingOf, OutcomeOf, started, accepted, stoppedFor, runFrom, siteStep, runAll, runAfter}
-use Rattle.rules.specs.Calls.{stepAnswer, stepNext, runOutcome, runTally, runState}
+use Rattle.rules.specs.Calls.{stepAnswer, stepNext, runOutcome, runTally, runState, stepAnswerBy}
 use Rattle.laws.specs.Outcomes.{if-done, if-refused, if-same}
 use Rattle.laws.specs.Runs.{further, finished, by-step}
 use Rattle.promises.specs.TheCall.{call-leaves}
@@ -48,7 +48,7 @@ pub record IsTheStep (c : Card) (g s next scratch : List ℤ) : Type 0 where
   pub state : runState c g s scratch ≡ ifDone (stepAnswer c g s next) (stepNext c g s next) s
 
 pub is-the-step : (c : Card) (g s next scratch : List ℤ) → c .steps ≡ 1 → length next ≡ length scratch → IsTheStep c g s next scratch
-unfolding runTally runState runOutcome stepAnswer
+unfolding runTally runState runOutcome stepAnswerBy
 is-the-step c g s next scratch w e =
     let o : Once (stepAnswer c g s next) (nextState c g s) s (runOutcome c g s scratch) =
     subst (λ (n : ℕ). Once (stepAnswer c g s next) (nextState c g s) s (runAfter (checkWith c g s n) c g s)) e (once-after c g s w (checkWith c g s (length next))) in

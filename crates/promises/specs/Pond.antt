@@ -7,7 +7,7 @@ use lib.IntN.{ℤ, pos, negℤ}
 use Rattle.rules.specs.declared.Card.{Card}
 use Rattle.rules.specs.Grid.{tabulate, grid, all, allAt}
 use Rattle.rules.specs.Site.{readGround, readState, writeState, stateLength, sizesFit, sidesFit, timesFit, cardFits, lengthsFit, groundsFit, heightsFit, velocitiesFit, wallsStill, valuesFit, firstOf, checkAlso, check}
-use Rattle.rules.specs.Step.{walled, transfer, eastTransfer, northTransfer, forward, backward, withinLimit, newHeight, after, before, eastFace, northFace, outAhead, outBehind, outAbove, outBelow, positive, ownShare, brought, carried, rise, slope, isBank, dryBank, newVelocity, newEast, newNorth, next, limitKept, newHeightsFit, newVelocitiesFit, answer, number, stepNumberBy, nextStateBy, stepNumber, nextState}
+use Rattle.rules.specs.Step.{walled, transfer, eastTransfer, northTransfer, forward, backward, withinLimit, newHeight, after, before, eastFace, northFace, outAhead, outBehind, outAbove, outBelow, positive, ownShare, brought, carried, rise, slope, isBank, dryBank, newEast, newNorth, next, limitKept, newHeightsFit, newVelocitiesFit, answer, number, stepNumberBy, nextStateBy, stepNumber, nextState, newVelocityBy}
 use Rattle.rules.specs.Starred.{flat}
 use Rattle.promises.specs.InnerFaces.{everyInner}
 use Rattle.promises.specs.AtRest.{restsBetween, facesRest, allStill, stillWater}
@@ -49,5 +49,5 @@ pub record PondOnNumbers : Type 0 where
   pub moves : (stillWater pondCard pondGround (pond (pos 800002)) ≡ false) × Becomes (pond (pos 800002)) (stirred (pos 800002) (negℤ (pos 1)) (pos 1) (negℤ (pos 1)) (pos 1))
 
 pub pond-on-numbers : PondOnNumbers
-unfolding pondCard pondGround pondHeights pond stirred flat tabulate grid all allAt readGround readState writeState stateLength sizesFit sidesFit timesFit cardFits lengthsFit groundsFit heightsFit velocitiesFit wallsStill valuesFit firstOf checkAlso check walled transfer eastTransfer northTransfer forward backward withinLimit newHeight after before eastFace northFace outAhead outBehind outAbove outBelow positive ownShare brought carried rise slope isBank dryBank newVelocity newEast newNorth next limitKept newHeightsFit newVelocitiesFit answer number stepNumberBy nextStateBy stepNumber nextState everyInner restsBetween facesRest allStill stillWater
+unfolding pondCard pondGround pondHeights pond stirred flat tabulate grid all allAt readGround readState writeState stateLength sizesFit sidesFit timesFit cardFits lengthsFit groundsFit heightsFit velocitiesFit wallsStill valuesFit firstOf checkAlso check walled transfer eastTransfer northTransfer forward backward withinLimit newHeight after before eastFace northFace outAhead outBehind outAbove outBelow positive ownShare brought carried rise slope isBank dryBank newVelocityBy newEast newNorth next limitKept newHeightsFit newVelocitiesFit answer number stepNumberBy nextStateBy everyInner restsBetween facesRest allStill stillWater
 pond-on-numbers = record { meets = (refl, refl); misses = (refl, (refl, refl)); moves = (refl, (refl, refl)) }

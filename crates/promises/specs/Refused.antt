@@ -9,17 +9,18 @@ use lib.ListN.{length, replicate}
 use Rattle.rules.specs.declared.Card.{Card}
 use Rattle.rules.specs.declared.Window.{Window}
 use Rattle.rules.specs.Site.{checkWith}
+use Rattle.rules.specs.Step.{Rule}
 use Rattle.rules.specs.Run.{Outcome}
 use Rattle.rules.specs.Sheet.{readNumber, noCard}
-use Rattle.rules.specs.Calls.{stepAnswer, stepNext, runOutcome, runTally, runState, runScratch, searchNumber, searchFound, searchCheck, searchAnswer, readAnswer, readGroundList, readStateList, writeNumber, writeAnswer, writeBytes}
+use Rattle.rules.specs.Calls.{stepAnswerBy, stepNextBy, runOutcome, runTally, runState, runScratch, searchNumber, searchFound, searchCheck, searchAnswer, readAnswer, readGroundList, readStateList, writeNumber, writeAnswer, writeBytes}
 use Rattle.laws.specs.Asked.{places-refused}
 use Rattle.laws.specs.Outcomes.{if-done, if-refused}
 use Rattle.laws.specs.Runs.{refused-after}
 
--- step: the next state as lent
-pub step-refused : (c : Card) (g s next : List ℤ) → 0 < stepAnswer c g s next → stepNext c g s next ≡ next
-unfolding stepNext
-step-refused c g s next h = if-refused _ _ _ (ne-of-gt h)
+-- step, by either engine: the next state as lent
+pub step-refused : (rule : Rule) (c : Card) (g s next : List ℤ) → 0 < stepAnswerBy rule c g s next → stepNextBy rule c g s next ≡ next
+unfolding stepNextBy
+step-refused rule c g s next h = if-refused _ _ _ (ne-of-gt h)
 
 -- run, reasons 1 to 3: steps 0, top 0, both lists as lent
 pub record RunRefused (c : Card) (g s scratch : List ℤ) : Type 0 where

@@ -7,7 +7,7 @@ use lib.IntN.{ℤ}
 use lib.Dec.{T, leb, le→leb}
 use Rattle.rules.specs.declared.Card.{Card}
 use Rattle.rules.specs.Site.{stateLength, readGround, readState, writeState, within, sizesFit, sidesFit, timesFit, cardFits, lengthsFit, groundsFit, heightsFit, velocitiesFit, wallsStill, valuesFit, check}
-use Rattle.rules.specs.Step.{eastTransfer, northTransfer, newHeight, eastFace, northFace, newEast, newNorth, next, withinLimit, limitKept, newHeightsFit, newVelocitiesFit, number, stepNumberBy, nextStateBy, stepNumber, nextState}
+use Rattle.rules.specs.Step.{eastTransfer, northTransfer, newHeight, eastFace, northFace, newEast, newNorth, next, withinLimit, limitKept, newHeightsFit, newVelocitiesFit, number, stepNumberBy, nextStateBy}
 use Rattle.rules.specs.Run.{peak, siteStep}
 use Rattle.laws.specs.Tests.{true-of, to-T, and-both, and-left, three-of}
 use Rattle.laws.specs.Facts.{check-sound, sound-check}
@@ -18,7 +18,7 @@ wanting c n = record { columns = c .columns; rows = c .rows; dx = c .dx; dy = c 
 
 -- so it is the same step
 pub same-step : (c : Card) (a b : ℕ) (g : List ℤ) → siteStep (wanting c a) g ≡ siteStep (wanting c b) g
-unfolding peak stepNumber nextState stepNumberBy nextStateBy number next limitKept withinLimit newHeightsFit newHeight newVelocitiesFit newEast newNorth eastFace northFace eastTransfer northTransfer readGround readState writeState
+unfolding peak stepNumberBy nextStateBy number next limitKept withinLimit newHeightsFit newHeight newVelocitiesFit newEast newNorth eastFace northFace eastTransfer northTransfer readGround readState writeState
 same-step c a b g = refl
 
 module _ (c : Card) (a b : ℕ) (g s : List ℤ) where

@@ -37,11 +37,9 @@ pub record RunCallStaysStill (c : Card) (g s scratch : List ℤ) : Type 0 where
 
 module _ (c : Card) (g s : List ℤ) (passes : check c g s ≡ 0) (still : stillWater c g s ≡ true) where
   accepted : stepNumber c g s ≡ 0
-  unfolding stepNumber
   accepted = number-by newVelocity rested c g s passes still
 
   unchanged : nextState c g s ≡ s
-  unfolding nextState
   unchanged = next-by newVelocity rested c g s passes still
 
   pub still-water : StaysStill c g s

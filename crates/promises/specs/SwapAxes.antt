@@ -30,7 +30,7 @@ module _ (c : Card) (g s : List ℤ) where
   }
 
   next-swapped : nextState (swapCard c) (swapAxes .ground c g) (swapAxes .state c s) ≡ swapAxes .state c (nextState c g s)
-  unfolding nextState nextStateBy
+  unfolding nextStateBy
   next-swapped =
       let n = next newVelocity c (readGround c g) (readState c s) in
       let m = S.next-swapped c (readState c s) (readState (swapCard c) (swapAxes .state c s)) state-swapped (readGround c g) (readGround (swapCard c) (swapAxes .ground c g)) ground-swapped newVelocity in
@@ -47,7 +47,7 @@ module _ (c : Card) (g s : List ℤ) where
       (λ i j hi hj. (j, i, hj, hi, sym (state-swapped .height j i hj hi)))
 
   number-swapped : stepNumber (swapCard c) (swapAxes .ground c g) (swapAxes .state c s) ≡ stepNumber c g s
-  unfolding stepNumber stepNumberBy
+  unfolding stepNumberBy
   number-swapped = numbers c (readState c s) (readState (swapCard c) (swapAxes .state c s)) state-swapped (readGround c g) (readGround (swapCard c) (swapAxes .ground c g)) ground-swapped newVelocity
 
   card-swapped : cardFits (swapCard c) ≡ cardFits c

@@ -9,7 +9,7 @@ use Rattle.rules.specs.declared.Card.{Card}
 use Rattle.rules.specs.Site.{check, checkWith, firstRefusal}
 use Rattle.rules.specs.Step.{stepNumber, nextState}
 use Rattle.rules.specs.Run.{runAfter, run}
-use Rattle.rules.specs.Calls.{stepAnswer, stepNext, runOutcome}
+use Rattle.rules.specs.Calls.{stepAnswer, stepNext, runOutcome, stepAnswerBy, stepNextBy}
 use Rattle.laws.specs.Facts.{check-own}
 use Rattle.laws.specs.Outcomes.{if-done}
 
@@ -18,9 +18,9 @@ unfolding runOutcome run
 call-runs c g s scratch e = ap (λ (k : ℕ). runAfter k c g s) (ap (checkWith c g s) e ∙ check-own c g s)
 
 pub call-steps : (c : Card) (g s next : List ℤ) → length next ≡ length s → stepAnswer c g s next ≡ firstRefusal (check c g s) (stepNumber c g s)
-unfolding stepAnswer
+unfolding stepAnswerBy
 call-steps c g s next e = ap (λ (k : ℕ). firstRefusal k (stepNumber c g s)) (ap (checkWith c g s) e ∙ check-own c g s)
 
 pub call-leaves : (c : Card) (g s next : List ℤ) → stepAnswer c g s next ≡ 0 → stepNext c g s next ≡ nextState c g s
-unfolding stepNext
+unfolding stepNextBy
 call-leaves c g s next e = if-done (stepAnswer c g s next) (nextState c g s) next e

@@ -35,7 +35,6 @@ module _ (c : Card) (g s : List ℤ) where
       sumAt-same (c .columns) (c .rows) _ (n .height) (height-back c n) ∙ sum-kept c (readState c s)
 
   pub next-sum : sumOfHeights c (nextState c g s) ≡ sumOfHeights c s
-  unfolding nextState
   next-sum = next-sum-by newVelocity
 
 -- ---- The run

@@ -5,18 +5,17 @@ use Prim.Native.Nat.{ℕ, suc}
 use mathlib.Core.Path.{_≡_, refl, sym, _∙_}
 use mathlib.Core.Bool.{true, false}
 use mathlib.Core.List.{List}
-use native.Mathlib.Nat.{ne-of-gt}
-use lib.IntN.{ℤ, pos, negsuc, _+ℤ_, _-ℤ_, -ℤ-+ℤ-cancel}
+use lib.IntN.{ℤ, pos, _+ℤ_, _-ℤ_, -ℤ-+ℤ-cancel}
 use lib.Signed.{leZ, ltZ}
-use lib.Dec.{T, ltb→lt}
-use borrow.Author.Tests.{ne-eqb}
+use lib.Dec.{T}
 use Rattle.rules.specs.declared.Card.{Card}
 use Rattle.rules.specs.declared.Face.{Face}
 use Rattle.rules.specs.Grid.{Field}
 use Rattle.rules.specs.Site.{Water, check, readGround, readState, isZero}
-use Rattle.rules.specs.Step.{walled, transfer, eastTransfer, northTransfer, forward, newHeight, after, before, eastFace, northFace, outAhead, outBehind, outAbove, outBelow, positive, oldSum, newSum, ownShare, allFlowIn, brought, carried, carriedPart, slope, dryBank, newVelocity, newEast, newNorth, next, limitKept}
+use Rattle.rules.specs.Step.{walled, transfer, eastTransfer, northTransfer, forward, newHeight, after, before, eastFace, northFace, outAhead, outBehind, outAbove, outBelow, positive, oldSum, newSum, ownShare, allFlowIn, brought, carried, carriedPart, rise, slope, dryBank, newVelocity, newEast, newNorth, next, limitKept}
 use Rattle.rules.specs.Starred.{oneRow, flat, passing, through}
 use Rattle.laws.specs.Walls.{on-inner}
+use Rattle.laws.specs.Numbers.{above-is-not-0}
 use Rattle.laws.specs.Velocity.{without-water, on-a-bank, elsewhere}
 use Rattle.laws.specs.Balance.{flowOver, share-and-inflow, east-balance, north-balance}
 use Rattle.laws.specs.Weighed.{at-least, at-most}
@@ -72,20 +71,16 @@ carried-between c g s e limit =
 -- And it is the new velocity's. Given the velocity v that the face has in the next state: with the slope put back that is the carried part, where H' is above 0
 -- and neither cell is a dry bank. Without water, and on a bank (document 02, [2]), nothing is carried on.
 pub record SlopePutBack (dt d : ℕ) (v : ℤ) (f : Face) : Type 0 where
-  pub put-back : T (ltZ (pos 0) (newSum f)) → dryBank f ≡ false → v +ℤ slope dt d f ≡ carriedPart f
+  pub put-back : T (ltZ (pos 0) (newSum f)) → dryBank f ≡ false → v +ℤ slope dt d (rise f) ≡ carriedPart f
   pub no-water : isZero (newSum f) ≡ true → v ≡ pos 0
   pub on-bank : dryBank f ≡ true → v ≡ pos 0
 
 of-velocity : (dt d : ℕ) (f : Face) → SlopePutBack dt d (newVelocity dt d f) f
 of-velocity dt d f = record {
-  put-back = λ above no. rw (elsewhere dt d f (above-is-not-0 (newSum f) above) no) (-ℤ-+ℤ-cancel (carriedPart f) (slope dt d f));
-  no-water = without-water dt d f;
-  on-bank = on-a-bank dt d f;
+  put-back = λ above no. rw (elsewhere rise dt d f (above-is-not-0 (newSum f) above) no) (-ℤ-+ℤ-cancel (carriedPart f) (slope dt d (rise f)));
+  no-water = without-water rise dt d f;
+  on-bank = on-a-bank rise dt d f;
 }
-  where
-    above-is-not-0 : (z : ℤ) → T (ltZ (pos 0) z) → isZero z ≡ false
-    above-is-not-0 (pos n) t = ne-eqb n 0 (ne-of-gt (ltb→lt 0 n t))
-    above-is-not-0 (negsuc n) t = absurd t
 
 pub slope-put-back : (c : Card) (g : Field) (w : Water) → EveryInner c
     (λ i j. SlopePutBack (c .dt) (c .dx) (next newVelocity c g w .east (suc i) j) (eastFace c g w i j))

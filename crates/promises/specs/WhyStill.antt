@@ -35,10 +35,10 @@ unfolding restsBetween rise dryBank isBank
 rested dt d f none = go (isZero (f .newK)) (isZero (f .newL)) refl refl
   where
     go : (dryK dryL : Bool) → isZero (f .newK) ≡ dryK → isZero (f .newL) ≡ dryL → T (restsBetween dryK dryL (f .newK) (f .groundK) (f .newL) (f .groundL)) → newVelocity dt d f ≡ pos 0
-    go false false k l t = nothing-pulls dt d f (carries-nothing none) (zero-is (rise f) t)
-    go true false k l t = on-a-bank dt d f (rw (k, true-of (leZ (surfaceL f) (f .groundK)) t))
-    go false true k l t = on-a-bank dt d f (rw (k, l, true-of (leZ (surfaceK f) (f .groundL)) t))
-    go true true k l t = without-water dt d f (rw (zero-is (f .newK) (to-T k), zero-is (f .newL) (to-T l)))
+    go false false k l t = nothing-pulls rise dt d f (carries-nothing none) (zero-is (rise f) t)
+    go true false k l t = on-a-bank rise dt d f (rw (k, true-of (leZ (surfaceL f) (f .groundK)) t))
+    go false true k l t = on-a-bank rise dt d f (rw (k, l, true-of (leZ (surfaceK f) (f .groundL)) t))
+    go true true k l t = without-water rise dt d f (rw (zero-is (f .newK) (to-T k), zero-is (f .newL) (to-T l)))
 
 -- ---- A site that passes the first three checks and whose water is still, by any such rule
 
