@@ -20,16 +20,17 @@
  * Lists: rows run south to north, and within a row west to east. Ground is columns*rows words. A state is columns*rows heights,
  * then (columns+1)*rows eastward velocities, then columns*(rows+1) northward velocities. Micrometres and micrometres a second.
  *
- * Volume: no water is made and none is lost. The sum of a state's columns*rows heights is the same after water_step with 0, and after
- * water_run whatever its reason. Of a state in range it is at most 819,200,000,000: add it up in 64 bits. Times dx and times dy, each
- * widened first (dx*dy alone takes up to 49 bits), it is the volume in cubic micrometres (10^15 to the litre), up to 89 bits: a 128-bit
- * integer where the compiler has one. To compare two states of one site the sums are enough.
+ * Volume: no water is made and none is lost. The sum of a state's columns*rows heights is the same after a step with 0, by either engine,
+ * and after water_run whatever its reason. Of a state in range it is at most 819,200,000,000: add it up in 64 bits. Times dx and times
+ * dy, each widened first (dx*dy alone takes up to 49 bits), it is the volume in cubic micrometres (10^15 to the litre), up to 89 bits: a
+ * 128-bit integer where the compiler has one. To compare two states of one site the sums are enough.
  *
  * Stack that a call takes, in bytes, where the archive is rt's for x86-64. A thread takes some for itself besides, and so does a
  * loader that binds memcpy and memset only when they are first called.
  *
  *                          any input   small site   refused
  *     water_step             398,000       27,000     1,000
+ *     water_step_textbook    398,000       27,000     1,000
  *     water_run              200,000       15,000     1,000
  *     water_search            38,000       38,000    38,000
  *     water_search_lists       6,000        6,000     6,000
@@ -37,9 +38,9 @@
  *     water_write_sheet        1,000        1,000     1,000
  *     water_depth_text         1,000        1,000     1,000
  *
- * Small is a site whose state has at most 3,136 words, as with 32 columns and 32 rows; where it has at most 800, as with 16 and 16,
- * water_step takes 9,000. Refused means with 1, 2 or 3, and by the sheet reader with 9 too: the 4, 5 and 7 of a step or a run take
- * what the site takes.
+ * Small is a site whose state has at most 3,136 words, as with 32 columns and 32 rows; where it has at most 800, as with 16 and 16, a
+ * step by either engine takes 9,000. Refused means with 1, 2 or 3, and by the sheet reader with 9 too: the 4, 5 and 7 of a step or a run
+ * take what the site takes.
  */
 #ifndef WATER_H
 #define WATER_H
@@ -94,6 +95,17 @@ uint32_t water_step(WaterCard card,
                     const int32_t *ground, size_t ground_length,
                     const int32_t *state, size_t state_length,
                     int32_t *next, size_t next_length);
+
+/* The same step by the textbook engine, for those who read beside the paper (of Herbin, Latche, Nasseri and Therme): its pressure and its
+ * ground, (7c) and (7d), are kept apart. With hK, hL the new heights and zK, zL the grounds of a face's two cells, the pressure term
+ * hL*hL - hK*hK and the ground term (hK + hL)*(zL - zK) are added and divided by hK + hL, which leaves no rest. What comes out is the
+ * difference of the surfaces, which water_step takes as it is.
+ * So whatever the input, the number and every list are water_step's. That one is the default, and what water_run repeats: the textbook
+ * engine divides once more for each face with water, and is slower. */
+uint32_t water_step_textbook(WaterCard card,
+                             const int32_t *ground, size_t ground_length,
+                             const int32_t *state, size_t state_length,
+                             int32_t *next, size_t next_length);
 
 /* As many steps as the card wants, on state itself; scratch is a list of the state's length.
  * Reasons 1 to 3: steps 0, top 0, both lists as lent. Otherwise, whatever the reason (0, 4, 5 or 7), state holds the last accepted

@@ -5,6 +5,10 @@ uint32_t water_step(WaterCard card, GROUND, STATE, LIST(int32_t, next)) {
     return flat_step(&card, LENT(ground), LENT(state), LENT(next));
 }
 
+uint32_t water_step_textbook(WaterCard card, GROUND, STATE, LIST(int32_t, next)) {
+    return flat_step_textbook(&card, LENT(ground), LENT(state), LENT(next));
+}
+
 WaterTally water_run(WaterCard card, GROUND, LIST(int32_t, state), LIST(int32_t, scratch)) {
     WaterTally tally;
     flat_run(&card, LENT(ground), LENT(state), LENT(scratch), &tally);

@@ -5,6 +5,10 @@ uint32_t flat_step(const WaterCard *card, GROUND, STATE, LIST(int32_t, next)) {
     return water_step(*card, LENT(ground), LENT(state), LENT(next));
 }
 
+uint32_t flat_step_textbook(const WaterCard *card, GROUND, STATE, LIST(int32_t, next)) {
+    return water_step_textbook(*card, LENT(ground), LENT(state), LENT(next));
+}
+
 void flat_run(const WaterCard *card, GROUND, LIST(int32_t, state), LIST(int32_t, scratch), WaterTally *tally) {
     *tally = water_run(*card, LENT(ground), LENT(state), LENT(scratch));
 }

@@ -7,6 +7,7 @@
 #define STATE LIST(const int32_t, state)
 
 uint32_t flat_step(const WaterCard *card, GROUND, STATE, LIST(int32_t, next));
+uint32_t flat_step_textbook(const WaterCard *card, GROUND, STATE, LIST(int32_t, next));
 void flat_run(const WaterCard *card, GROUND, LIST(int32_t, state), LIST(int32_t, scratch), WaterTally *tally);
 void flat_search(const WaterCard *card, GROUND, STATE, LIST(const WaterChamber, chambers), const WaterWindow *window,
                  int32_t depth, LIST(uint32_t, found), WaterFound *answer);

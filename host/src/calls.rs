@@ -43,10 +43,40 @@ fn done<T>(number: u32, needed: usize, answer: T) -> Result<T, Refusal> {
 /// assert_eq!(short, [7; 8]);
 /// ```
 pub fn step(card: Card, ground: &[i32], state: &[i32], next: &mut [i32]) -> Result<(), Refusal> {
+    step_by(raw::water_step, card, ground, state, next)
+}
+
+/// The same step by the textbook engine, for those who read beside the paper: pressure and ground, its (7c) and (7d), are two terms of each
+/// face, which are added and divided by the sum of its two new heights. `include/water.h` has them in full.
+///
+/// Whatever the input, it answers and leaves in `next` what [`step`] does. That one is the default: it divides once less for each face with
+/// water, and is the faster.
+///
+/// ```
+/// use water::{calls, Card, Refusal};
+/// let card = Card { columns: 2, rows: 1, dx: 1_000_000, dy: 1_000_000, dt: 100, steps: 0 };
+/// let mut state = [2_000_000, 1_000_000, 0, 0, 0, 0, 0, 0, 0];
+/// for expected in [[2_000_000, 1_000_000, 0, 980_665, 0, 0, 0, 0, 0], [1_803_867, 1_196_133, 0, 1_512_534, 0, 0, 0, 0, 0]] {
+///     let (mut next, mut textbook) = ([0; 9], [0; 9]);
+///     calls::step(card, &[0, 0], &state, &mut next)?;
+///     calls::step_textbook(card, &[0, 0], &state, &mut textbook)?;
+///     assert_eq!((next, textbook), (expected, expected));
+///     state = textbook;
+/// }
+///
+/// state[3] = 20_000_001;
+/// let mut next = [7; 9];
+/// assert_eq!(calls::step_textbook(card, &[0, 0], &state, &mut next), Err(Refusal::Value));
+/// assert_eq!(next, [7; 9]);
+/// # Ok::<(), Refusal>(())
+/// ```
+pub fn step_textbook(card: Card, ground: &[i32], state: &[i32], next: &mut [i32]) -> Result<(), Refusal> {
+    step_by(raw::water_step_textbook, card, ground, state, next)
+}
+
+fn step_by(step: raw::Step, card: Card, ground: &[i32], state: &[i32], next: &mut [i32]) -> Result<(), Refusal> {
     // Safety, here and below: each pointer comes with its own slice's length, and what is filled is borrowed alone.
-    let number = unsafe {
-        raw::water_step(card, ground.as_ptr(), ground.len(), state.as_ptr(), state.len(), next.as_mut_ptr(), next.len())
-    };
+    let number = unsafe { step(card, ground.as_ptr(), ground.len(), state.as_ptr(), state.len(), next.as_mut_ptr(), next.len()) };
     done(number, 0, ())
 }
 

@@ -2,7 +2,8 @@
 //!
 //! A [`Site`] owns its lists and is the comfortable way in; [`calls`] has the library's calls on slices that a host keeps itself;
 //! [`raw`] is what C sees. All state is whole numbers: micrometres, micrometres a second, milliseconds. Rows run south to north,
-//! and within a row west to east.
+//! and within a row west to east. Two engines make a step, to the same numbers: [`calls::step`] is the default, which a run repeats, and
+//! [`calls::step_textbook`] is for reading beside the paper.
 //!
 //! # Stack
 //!
@@ -12,6 +13,7 @@
 //! | call | any input | small site | refused |
 //! |---|---|---|---|
 //! | [`calls::step`] | 398,000 | 27,000 | 1,000 |
+//! | [`calls::step_textbook`] | 398,000 | 27,000 | 1,000 |
 //! | [`calls::run`] | 200,000 | 15,000 | 1,000 |
 //! | [`calls::search`] | 38,000 | 38,000 | 38,000 |
 //! | [`calls::search_lists`] | 6,000 | 6,000 | 6,000 |
@@ -20,8 +22,8 @@
 //! | [`calls::depth_text`] | 1,000 | 1,000 | 1,000 |
 //!
 //! Small is a site whose state has at most 3,136 words, as with 32 columns and 32 rows; where it has at most 800, as with 16 and 16, a step
-//! takes 9,000. Refused means with `Card`, `Length` or `Value`, and by the sheet reader with `Sheet` too: the later refusals of a step or a
-//! run take what the site takes. A [`Site`] takes as much as the calls that it makes.
+//! by either engine takes 9,000. Refused means with `Card`, `Length` or `Value`, and by the sheet reader with `Sheet` too: the later
+//! refusals of a step or a run take what the site takes. A [`Site`] takes as much as the calls that it makes.
 //!
 //! # The archive
 //!

@@ -66,8 +66,21 @@ pub struct Wrote {
     pub size: u32,
 }
 
+/// A step's call by either engine: [`water_step`] or [`water_step_textbook`].
+pub type Step = unsafe extern "C" fn(Card, *const i32, usize, *const i32, usize, *mut i32, usize) -> u32;
+
 extern "C" {
     pub fn water_step(
+        card: Card,
+        ground: *const i32,
+        ground_length: usize,
+        state: *const i32,
+        state_length: usize,
+        next: *mut i32,
+        next_length: usize,
+    ) -> u32;
+
+    pub fn water_step_textbook(
         card: Card,
         ground: *const i32,
         ground_length: usize,

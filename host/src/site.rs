@@ -105,9 +105,34 @@ impl Site {
     /// # Ok::<(), Refusal>(())
     /// ```
     pub fn step(&mut self) -> Result<(), Refusal> {
-        calls::step(self.card, &self.ground, &self.state, &mut self.spare)?;
-        std::mem::swap(&mut self.state, &mut self.spare);
-        Ok(())
+        let answer = calls::step(self.card, &self.ground, &self.state, &mut self.spare);
+        self.take_over(answer)
+    }
+
+    /// One step by the textbook engine ([`calls::step_textbook`]): the site that [`Site::step`] makes, and the same refusals.
+    ///
+    /// ```
+    /// # use water::{Card, Refusal, Site};
+    /// # let card = Card { columns: 2, rows: 1, dx: 1_000_000, dy: 1_000_000, dt: 100, steps: 2 };
+    /// let mut site = Site::still(card, vec![0, 0], &[2_000_000, 1_000_000])?;
+    /// let mut other = site.clone();
+    /// site.step()?;
+    /// other.step_textbook()?;
+    /// assert_eq!(site.eastward(), [0, 980_665, 0]);
+    /// assert_eq!(other, site);
+    /// # Ok::<(), Refusal>(())
+    /// ```
+    pub fn step_textbook(&mut self) -> Result<(), Refusal> {
+        let answer = calls::step_textbook(self.card, &self.ground, &self.state, &mut self.spare);
+        self.take_over(answer)
+    }
+
+    /// Takes the next state of an accepted step over from the spare list.
+    fn take_over(&mut self, answer: Result<(), Refusal>) -> Result<(), Refusal> {
+        if answer.is_ok() {
+            std::mem::swap(&mut self.state, &mut self.spare);
+        }
+        answer
     }
 
     /// As many steps as the card wants.

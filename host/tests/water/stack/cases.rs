@@ -56,6 +56,11 @@ pub fn step(site: Wild) -> Call {
     Box::new(move || calls::step(site.card, &site.ground, &site.state, &mut next))
 }
 
+pub fn step_textbook(site: Wild) -> Call {
+    let mut next = vec![0; site.state.len()];
+    Box::new(move || calls::step_textbook(site.card, &site.ground, &site.state, &mut next))
+}
+
 pub fn run(mut site: Wild) -> Call {
     let mut scratch = vec![0; site.state.len()];
     Box::new(move || {

@@ -8,6 +8,7 @@ mod cases;
 #[cfg(target_arch = "x86_64")]
 mod painted;
 
+use crate::wild::Wild;
 use cases::Call;
 use std::thread;
 use water::Refusal;
@@ -41,7 +42,7 @@ fn header(name: &str) -> Named {
 fn step_of_800_words() -> usize {
     for page in [include_str!("../../../../include/water.h"), include_str!("../../../src/lib.rs")] {
         assert!(
-            page.contains("at most 800, as with 16 and 16") && page.contains("takes 9,000."),
+            page.contains("at most 800, as with 16 and 16") && page.contains("by either engine takes 9,000."),
             "both pages name a step of 800 words"
         );
     }
@@ -57,23 +58,26 @@ fn holds(case: &str, named: usize, answer: Result<(), Refusal>, make: impl Fn() 
         assert_eq!(answered, answer, "{case}");
         assert!(took <= named, "{case} takes {took} bytes of stack, and include/water.h names {named}");
     }
-    let mut call = make();
-    let thread = thread::Builder::new().stack_size(named + THREAD).spawn(move || call()).unwrap();
+    let thread = thread::Builder::new().stack_size(named + THREAD).spawn(make()).unwrap();
     assert_eq!(thread.join().unwrap(), answer, "{case}");
 }
 
 #[test]
-fn step_takes_what_is_named() {
-    let named = header("water_step");
-    holds("step, 128×128", named.any, Ok(()), || cases::step(cases::site(128)));
-    holds("step, 128×128, refused with 4", named.any, Err(Refusal::StepLimit), || cases::step(cases::too_fast(128)));
-    holds("step, 32×32", named.small, Ok(()), || cases::step(cases::site(32)));
-    holds("step, 16×16", step_of_800_words(), Ok(()), || cases::step(cases::site(16)));
-    holds("step, 8×8", step_of_800_words(), Ok(()), || cases::step(cases::site(8)));
-    holds("step, an empty card", named.refused, Err(Refusal::Card), || cases::step(cases::nothing()));
-    holds("step, a bad card", named.refused, Err(Refusal::Card), || cases::step(cases::no_time(128)));
-    holds("step, lists too short", named.refused, Err(Refusal::Length), || cases::step(cases::short(128)));
-    holds("step, a bad value", named.refused, Err(Refusal::Value), || cases::step(cases::bad(128)));
+fn steps_take_what_is_named() {
+    for (name, step) in [("water_step", cases::step as fn(_) -> Call), ("water_step_textbook", cases::step_textbook)] {
+        let named = header(name);
+        let holds =
+            |case: &str, named, answer, site: fn() -> Wild| holds(&format!("{name}, {case}"), named, answer, || step(site()));
+        holds("128×128", named.any, Ok(()), || cases::site(128));
+        holds("128×128, refused with 4", named.any, Err(Refusal::StepLimit), || cases::too_fast(128));
+        holds("32×32", named.small, Ok(()), || cases::site(32));
+        holds("16×16", step_of_800_words(), Ok(()), || cases::site(16));
+        holds("8×8", step_of_800_words(), Ok(()), || cases::site(8));
+        holds("an empty card", named.refused, Err(Refusal::Card), cases::nothing);
+        holds("a bad card", named.refused, Err(Refusal::Card), || cases::no_time(128));
+        holds("lists too short", named.refused, Err(Refusal::Length), || cases::short(128));
+        holds("a bad value", named.refused, Err(Refusal::Value), || cases::bad(128));
+    }
 }
 
 #[test]
@@ -139,7 +143,7 @@ fn depth_text_takes_what_is_named() {
 #[test]
 fn both_pages_name_the_same_stack() {
     let page = include_str!("../../../src/lib.rs");
-    for call in ["step", "run", "search", "search_lists", "read_sheet", "write_sheet", "depth_text"] {
+    for call in ["step", "step_textbook", "run", "search", "search_lists", "read_sheet", "write_sheet", "depth_text"] {
         assert_eq!(named(page, &format!("calls::{call}")), header(&format!("water_{call}")), "{call}");
     }
 }
