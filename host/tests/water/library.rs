@@ -1,19 +1,39 @@
 //! Each call of the library on fenced lists, beside the model: both get the same input, and every answer and every element of every
 //! lent list is compared. A call that leaves a list at one end meets a fence; one that writes within 1,024 bytes of the other end
 //! spoils a pattern. Each function returns the answer that both gave. Of every step and every run the sums of all heights are compared
-//! too, before and after.
+//! too, before and after; and every step is made by both engines, so that each test of a step is one of the textbook engine as well.
 
 use crate::lent::Lent;
 use crate::model;
 use crate::rng::Rng;
 use water::raw::{self, Card, Chamber, Found, Heard, Tally, Window, Wrote};
 
+/// A step's call, beside the model's that it is held to.
+struct Engine {
+    name: &'static str,
+    call: raw::Step,
+    model: fn(Card, &[i32], &[i32], &mut [i32]) -> u32,
+}
+
+const FIRST: Engine = Engine { name: "step", call: raw::water_step, model: model::step };
+const TEXTBOOK: Engine = Engine { name: "textbook step", call: raw::water_step_textbook, model: model::step_textbook };
+
+/// By both engines: the same number, and the same in every list.
 pub fn step(rng: &mut Rng, card: Card, ground: &[i32], state: &[i32], next: &mut [i32]) -> u32 {
+    let mut textbook_next = next.to_vec();
+    let number = step_by(&FIRST, rng, card, ground, state, next);
+    let textbook = step_by(&TEXTBOOK, rng, card, ground, state, &mut textbook_next);
+    assert_eq!(textbook, number, "both engines' step of {card:?}");
+    assert!(textbook_next == next, "both engines' next state of {card:?}");
+    number
+}
+
+fn step_by(engine: &Engine, rng: &mut Rng, card: Card, ground: &[i32], state: &[i32], next: &mut [i32]) -> u32 {
     let (g, s, n) = (Lent::new(rng, "ground", ground), Lent::new(rng, "state", state), Lent::new(rng, "next", next));
     // Safety, here and below: each pointer comes with its own list's length, and no two lists share memory.
-    let number = unsafe { raw::water_step(card, g.pointer(), g.length(), s.pointer(), s.length(), n.pointer(), n.length()) };
-    let expected = model::step(card, ground, state, next);
-    assert_eq!(number, expected, "step of {card:?}");
+    let number = unsafe { (engine.call)(card, g.pointer(), g.length(), s.pointer(), s.length(), n.pointer(), n.length()) };
+    let expected = (engine.model)(card, ground, state, next);
+    assert_eq!(number, expected, "{} of {card:?}", engine.name);
     g.assert_holds(ground);
     s.assert_holds(state);
     n.assert_holds(next);

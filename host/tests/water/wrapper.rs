@@ -93,6 +93,7 @@ fn a_site_steps_as_the_model() {
     trials("site steps", 1_000, |rng| {
         let start = wild::good(rng);
         let mut site = Site::new(start.card, start.ground.clone(), start.state.clone()).unwrap();
+        let mut textbook = site.clone();
         let mut next = start.state.clone();
         let expected = model::step(start.card, &start.ground, &start.state, &mut next);
         assert_eq!(number(&site.step()), expected);
@@ -100,6 +101,8 @@ fn a_site_steps_as_the_model() {
         assert_eq!((site.card(), site.ground()), (start.card, &start.ground[..]));
         let parts = [site.heights(), site.eastward(), site.northward()].concat();
         assert_eq!(site.state(), parts);
+        assert_eq!(number(&textbook.step_textbook()), expected);
+        assert_eq!(textbook, site, "by the textbook engine");
     });
 }
 

@@ -32,6 +32,11 @@ pub struct Pair {
 }
 
 impl Pair {
+    /// The sum of the two heights; after a step, H'.
+    pub fn sum(&self) -> i128 {
+        self.k.height + self.l.height
+    }
+
     /// Where one of the two is a dry bank to the other.
     pub fn dry_bank(&self) -> bool {
         self.k.is_bank_to(&self.l) || self.l.is_bank_to(&self.k)

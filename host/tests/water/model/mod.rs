@@ -13,6 +13,7 @@ mod sheet;
 mod site;
 mod step;
 mod text;
+mod textbook;
 mod turn;
 
 pub use bank::{pairs, still_water, Pair};
@@ -23,4 +24,5 @@ pub use sheet::{read_sheet, sheet_size, write_sheet};
 pub use site::{cells, check, state_length, sum_of_heights, Site};
 pub use step::{carried_parts, own_shares, step, transfer, Carried};
 pub use text::depth_text;
+pub use textbook::{step_textbook, Terms};
 pub use turn::{Turn, TURNS};

@@ -1,5 +1,5 @@
 //! "One step": transfers first, then heights, then velocities, which use old transfers and new heights. A dry bank is one by its new
-//! height and the other cell's new surface.
+//! height and the other cell's new surface. Both engines' steps are made here; textbook.rs has what the second one does in another way.
 
 use super::bank::{Cell, Pair};
 use super::grid::Grid;
@@ -8,6 +8,15 @@ use water::raw::Card;
 
 /// Standard gravity in µm/s².
 const GRAVITY: i128 = 9_806_650;
+
+/// What a face's slope is of, in µm, by its two cells after the step: in nothing else do the two engines differ. It is asked where there is
+/// water and no dry bank.
+pub type Rise = fn(&Pair) -> i128;
+
+/// The first engine's: (hL'+zL) − (hK'+zK).
+fn rise(new: &Pair) -> i128 {
+    new.l.surface() - new.k.surface()
+}
 
 /// T has the sign of u and the size floor(h·|u|·dt / (1000·d)), h being K's old height if u > 0, L's if u < 0.
 pub fn transfer(dt: u32, d: u32, height_k: i128, height_l: i128, u: i128) -> i128 {
@@ -140,7 +149,7 @@ struct Face {
 impl Face {
     /// H', the new sum.
     fn new_sum(&self) -> i128 {
-        self.new.k.height + self.new.l.height
+        self.new.sum()
     }
 
     /// H less all flow out.
@@ -176,10 +185,9 @@ impl Face {
         self.who_counts().max().expect("its own counts")
     }
 
-    /// S = trunc(9,806,650·dt·((hL'+zL) − (hK'+zK)) / (1000·d)); Rust's quotient goes towards zero.
-    fn slope(&self) -> i128 {
-        let rise = self.new.l.surface() - self.new.k.surface();
-        GRAVITY * i128::from(self.dt) * rise / (1_000 * i128::from(self.d))
+    /// S = trunc(9,806,650·dt·rise / (1000·d)); Rust's quotient goes towards zero.
+    fn slope(&self, rise: Rise) -> i128 {
+        GRAVITY * i128::from(self.dt) * rise(&self.new) / (1_000 * i128::from(self.d))
     }
 
     /// Where the new velocity is 0 by rule: H' is 0, or one of the two cells is a dry bank to the other.
@@ -188,11 +196,11 @@ impl Face {
     }
 
     /// 0 by rule, otherwise trunc(A/H') − S.
-    fn new_velocity(&self) -> i128 {
+    fn new_velocity(&self, rise: Rise) -> i128 {
         if self.stands_still() {
             0
         } else {
-            self.carried_part() - self.slope()
+            self.carried_part() - self.slope(rise)
         }
     }
 }
@@ -216,13 +224,19 @@ pub struct Carried {
 
 /// Of each inner face of a site that passes the first three checks, eastward ones first; none where the new velocity is 0 by rule.
 pub fn carried_parts(site: &Site) -> Vec<Option<Carried>> {
-    let carried =
-        |face: &Face| Carried { least: face.least(), part: face.carried_part(), greatest: face.greatest(), slope: face.slope() };
+    let carried = |face: &Face| {
+        let (part, slope) = (face.carried_part(), face.slope(rise));
+        Carried { least: face.least(), part, greatest: face.greatest(), slope }
+    };
     Moving::of(site).inner_faces().iter().map(|face| (!face.stands_still()).then(|| carried(face))).collect()
 }
 
 /// One step of a site that passes the first three checks: the next state, or the lowest of 4, 5 and 7 that applies.
 pub fn advance(site: &Site) -> Result<Vec<i32>, u32> {
+    advance_by(rise, site)
+}
+
+fn advance_by(rise: Rise, site: &Site) -> Result<Vec<i32>, u32> {
     let (columns, rows) = (site.columns(), site.rows());
     if !(0..rows).all(|j| (0..columns).all(|i| within_step_limit(site, i, j))) {
         return Err(4);
@@ -240,8 +254,9 @@ pub fn advance(site: &Site) -> Result<Vec<i32>, u32> {
         return Err(5);
     }
     // walls stay 0
-    let east = Grid::of(columns + 1, rows, |i, j| if i == 0 || i == columns { 0 } else { moving.east_face(i, j).new_velocity() });
-    let north = Grid::of(columns, rows + 1, |i, j| if j == 0 || j == rows { 0 } else { moving.north_face(i, j).new_velocity() });
+    let new = |face: Face| face.new_velocity(rise);
+    let east = Grid::of(columns + 1, rows, |i, j| if i == 0 || i == columns { 0 } else { new(moving.east_face(i, j)) });
+    let north = Grid::of(columns, rows + 1, |i, j| if j == 0 || j == rows { 0 } else { new(moving.north_face(i, j)) });
     if !east.numbers.iter().chain(&north.numbers).all(|&velocity| fits(&VELOCITIES, velocity)) {
         return Err(7);
     }
@@ -254,12 +269,17 @@ pub fn advance(site: &Site) -> Result<Vec<i32>, u32> {
 
 /// The call: refused, the next state is as lent.
 pub fn step(card: Card, ground: &[i32], state: &[i32], next: &mut [i32]) -> u32 {
+    step_by(rise, card, ground, state, next)
+}
+
+/// Either engine's call.
+pub fn step_by(rise: Rise, card: Card, ground: &[i32], state: &[i32], next: &mut [i32]) -> u32 {
     let site = Site { card, ground, state };
     let number = check_with(&site, next.len() == state.len(), || true);
     if number != 0 {
         return number;
     }
-    match advance(&site) {
+    match advance_by(rise, &site) {
         Ok(filled) => {
             next.copy_from_slice(&filled);
             0

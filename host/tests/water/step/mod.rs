@@ -1,5 +1,6 @@
 //! The step: random and hostile sites, each refusal at its boundary, which faces count in the step limit, own shares of which nothing is
-//! left, what is carried between what came, dry banks, still rows, and the sizes at which it works in another way.
+//! left, what is carried between what came, dry banks, still rows, the sizes at which it works in another way, and the textbook engine's
+//! greatest numbers. Both engines make every step here (library.rs).
 
 mod banks;
 mod boundary;
@@ -9,6 +10,7 @@ mod random;
 mod shares;
 mod sizes;
 mod still;
+mod textbook;
 
 use crate::library;
 use crate::model::TURNS;

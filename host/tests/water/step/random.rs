@@ -1,4 +1,4 @@
-//! The step on random sites and on nonsense.
+//! The step on random sites and on nonsense: both engines get each of them.
 
 use crate::given::Given;
 use crate::lent::room;
