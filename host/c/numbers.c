@@ -130,6 +130,15 @@ static Volume volume(WaterCard site, const int32_t *state) {
 
 /* ---- the numbers */
 
+/* A step by both engines, on next and on a copy of it: one number, and the same words. */
+static uint32_t step_by_both(WaterCard site, const int32_t *ground, size_t cells, const int32_t *state, size_t words, int32_t *next) {
+    int32_t *textbook = lend(next, words * sizeof *next);
+    uint32_t number = water_step(site, ground, cells, state, words, next, words);
+    EXPECT(water_step_textbook(site, ground, cells, state, words, textbook, words) == number);
+    EXPECT(memcmp(textbook, next, words * sizeof *next) == 0);
+    return number;
+}
+
 static const WaterCard card = {2, 1, 1000000, 1000000, 100, 0};
 static const int32_t flat[2] = {0, 0};
 
@@ -138,7 +147,7 @@ static uint32_t step(const int32_t ground[2], const int32_t state[9], int32_t ne
     const int32_t *g = lend(ground, 8);
     const int32_t *s = lend(state, 36);
     int32_t *n = LEND(as_lent);
-    uint32_t number = water_step(card, g, 2, s, 9, n, 9);
+    uint32_t number = step_by_both(card, g, 2, s, 9, n);
     EXPECT(memcmp(g, ground, 8) == 0 && memcmp(s, state, 36) == 0);
     EXPECT(number == 0 ? sum_of_heights(card, n) == sum_of_heights(card, state) : SAME(n, as_lent));
     memcpy(next, n, 36);
@@ -183,7 +192,7 @@ static void passing_through(void) {
     static const int32_t then[13] = {400000, 1000000, 1600000, 0, 2840172, 5411601};
     static const int32_t blank[13] = {1};
     int32_t *next = LEND(blank);
-    EXPECT(water_step(wide, LEND(ground), 3, LEND(state), 13, next, 13) == 0 && SAME(next, then));
+    EXPECT(step_by_both(wide, LEND(ground), 3, LEND(state), 13, next) == 0 && SAME(next, then));
     hand_back();
 }
 
@@ -193,7 +202,7 @@ static void at_rest(void) {
     static const int32_t state[13] = {1000000, 600000, 900000};
     static const int32_t blank[13] = {1};
     int32_t *next = LEND(blank);
-    EXPECT(water_step(wide, LEND(ground), 3, LEND(state), 13, next, 13) == 0 && SAME(next, state));
+    EXPECT(step_by_both(wide, LEND(ground), 3, LEND(state), 13, next) == 0 && SAME(next, state));
     hand_back();
 }
 
@@ -313,7 +322,7 @@ static void largest(void) {
     uint8_t *bytes = LEND(room);
     const WaterChamber *c = LEND(chambers);
     uint32_t *found = LEND(places);
-    EXPECT(water_step(big, g, CELLS, s, WORDS, n, WORDS) == 0);
+    EXPECT(step_by_both(big, g, CELLS, s, WORDS, n) == 0);
     EXPECT(volume(big, n) == volume(big, s));
     WaterTally tally = water_run(big, g, CELLS, s, WORDS, n, WORDS);
     EXPECT(volume(big, s) == volume(big, state) && volume(big, s) / 1000000 / 1000000 == (Volume)CELLS * 1000000 + (Volume)CELLS * (CELLS - 1) / 2);
@@ -337,6 +346,7 @@ static void no_pointers(void) {
     static const int32_t state[9] = {2000000, 1000000, 0, 0, 0, 0, 0, 0, 0};
     const WaterWindow all = {-1, -1, 3e6, 3e6};
     EXPECT(water_step(card, NULL, 0, NULL, 0, NULL, 0) == 2);
+    EXPECT(water_step_textbook(card, NULL, 0, NULL, 0, NULL, 0) == 2);
     WaterTally tally = water_run(card, NULL, 0, NULL, 0, NULL, 0);
     EXPECT(tally.steps == 0 && tally.reason == 2 && tally.top == 0);
     WaterHeard heard = water_read_sheet(NULL, 0, NULL, 0, NULL, 0);
