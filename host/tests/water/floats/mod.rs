@@ -7,3 +7,4 @@ mod dam_break;
 mod scheme;
 mod steps;
 mod still;
+mod textbook;

@@ -77,6 +77,21 @@ pub fn leaving(card: &Card, water: &Water) -> f64 {
     (0..water.rows).flat_map(|j| (0..water.columns).map(move |i| (i, j))).fold(0.0, |most, (i, j)| f64::max(most, share(i, j)))
 }
 
+/// A cell's water and the ground below it.
+pub struct Cell {
+    pub height: f64,
+    pub ground: f64,
+}
+
+/// (7d)'s pressure and ground between K and L, over the height of the face's cell; time step and side come in afterwards.
+pub type Pull = fn(&Cell, &Cell) -> f64;
+
+/// Both together, as document 01 has them: the height cancels, and what is left is the surface's rise. So a level surface does not pull at
+/// all, to the last bit.
+fn pull_of_surfaces(k: &Cell, l: &Cell) -> f64 {
+    GRAVITY * ((l.height + l.ground) - (k.height + k.ground))
+}
+
 /// (7d) for one face: the momentum that is there and that comes in, less what goes out, over the new mass, less the surface's slope.
 /// A flow over a dual edge is positive out of the face's cell; what goes out carries u, what comes in the neighbour's velocity.
 fn new_velocity(u: f64, old_sum: f64, new_sum: f64, flows: [(f64, f64); 4], slope: f64) -> f64 {
@@ -96,6 +111,10 @@ pub fn dry_bank(ground: &[i32], heights: &[f64], k: usize, l: usize) -> Option<(
 
 /// One step.
 pub fn step(card: &Card, ground: &[i32], water: &Water) -> Water {
+    step_by(pull_of_surfaces, card, ground, water)
+}
+
+pub fn step_by(pull: Pull, card: &Card, ground: &[i32], water: &Water) -> Water {
     let (columns, rows) = (water.columns, water.rows);
     let seconds = f64::from(card.dt) / 1_000.0;
     let (east, north) = fluxes(card, water);
@@ -108,7 +127,8 @@ pub fn step(card: &Card, ground: &[i32], water: &Water) -> Water {
             next.heights[j * columns + i] += east_at(i, j) - east_at(i + 1, j) + north_at(i, j) - north_at(i, j + 1);
         }
     }
-    let surface = |i: usize, j: usize| next.heights[j * columns + i] + f64::from(ground[j * columns + i]);
+    let cell = |k: usize| Cell { height: next.heights[k], ground: f64::from(ground[k]) };
+    let slope = |k: usize, l: usize, side: u32| seconds * pull(&cell(k), &cell(l)) / f64::from(side);
     let new_sum = |a: usize, b: usize| next.heights[a] + next.heights[b];
     let unless_bank = |k: usize, l: usize, velocity: f64| match dry_bank(ground, &next.heights, k, l) {
         None => velocity,
@@ -125,9 +145,8 @@ pub fn step(card: &Card, ground: &[i32], water: &Water) -> Water {
                 (north_at(i - 1, j + 1) + north_at(i, j + 1), beside(j + 1)),
                 (-(north_at(i - 1, j) + north_at(i, j)), beside(j.wrapping_sub(1))),
             ];
-            let slope = GRAVITY * seconds * (surface(i, j) - surface(i - 1, j)) / f64::from(card.dx);
             let old_sum = water.height(i - 1, j) + water.height(i, j);
-            let velocity = new_velocity(water.east(i, j), old_sum, new_sum(k, l), flows, slope);
+            let velocity = new_velocity(water.east(i, j), old_sum, new_sum(k, l), flows, slope(k, l, card.dx));
             new_east[j * (columns + 1) + i] = unless_bank(k, l, velocity);
         }
     }
@@ -141,9 +160,8 @@ pub fn step(card: &Card, ground: &[i32], water: &Water) -> Water {
                 (east_at(i + 1, j - 1) + east_at(i + 1, j), beside(i + 1)),
                 (-(east_at(i, j - 1) + east_at(i, j)), beside(i.wrapping_sub(1))),
             ];
-            let slope = GRAVITY * seconds * (surface(i, j) - surface(i, j - 1)) / f64::from(card.dy);
             let old_sum = water.height(i, j - 1) + water.height(i, j);
-            let velocity = new_velocity(water.north(i, j), old_sum, new_sum(k, l), flows, slope);
+            let velocity = new_velocity(water.north(i, j), old_sum, new_sum(k, l), flows, slope(k, l, card.dy));
             new_north[j * columns + i] = unless_bank(k, l, velocity);
         }
     }

@@ -18,8 +18,12 @@
 //! On a dry bank it is 0 by rule too. Both programs look for banks by their own new heights, which differ by less than 4 µm: where one has
 //! a bank, the other has one as well, or misses it by less than 4 µm of water on it and of the surface beside it above its ground. The
 //! velocity of a program that has a bank must be 0; where only one has, the two are not compared.
+//!
+//! The doubles' two forms of the slope, that of the surfaces and that of the paper's two terms (textbook.rs), differ by what doubles lose: the
+//! terms over the height are up to g·150,000,000, so that 53 bits are off by less than g·10^-7, and the slope by that times dt/d, 10^-5.
 
 use super::scheme::{dry_bank, leaving, step, Water, GRAVITY};
+use super::textbook;
 use crate::rng::Rng;
 use crate::trials::{single, trials};
 use crate::wild::{self, Wild};
@@ -28,6 +32,9 @@ use water::{calls, Refusal};
 /// A new height differs by less than this, and by what doubles lose.
 const HEIGHT_OFF: f64 = 4.0 + 1e-6;
 
+/// A velocity by one form of the slope differs from that by the other by less than this.
+const FORMS_OFF: f64 = 1e-5;
+
 /// The largest differences, and how many numbers and banks were compared.
 #[derive(Default)]
 struct Seen {
@@ -35,6 +42,8 @@ struct Seen {
     velocity: f64,
     // as a share of what is allowed
     share: f64,
+    // between the two forms of the slope
+    forms: f64,
     heights: u64,
     velocities: u64,
     dry: u64,
@@ -57,6 +66,12 @@ impl Seen {
         self.velocity = self.velocity.max(off);
         self.share = self.share.max(off / allowed);
         self.velocities += 1;
+    }
+
+    fn compare_forms(&mut self, of_surfaces: f64, of_terms: f64) {
+        let off = (of_surfaces - of_terms).abs();
+        assert!(off < FORMS_OFF, "a velocity is {of_surfaces} by the surfaces, and {of_terms} by pressure and ground");
+        self.forms = self.forms.max(off);
     }
 }
 
@@ -81,6 +96,7 @@ fn compare_step(site: &Wild, next: &[i32], seen: &mut Seen) {
     }
     let fastest = before.east.iter().chain(&before.north).fold(0.0, |most: f64, velocity| most.max(velocity.abs()));
     let seconds = f64::from(site.card.dt) / 1_000.0;
+    let by_terms = textbook::step(&site.card, &site.ground, &before).all();
     let (all_ours, all_doubles) = (ours.all(), doubles.all());
     for (place, (k, l)) in site.inner_faces().into_iter().zip(site.cells_beside()) {
         let (whole, double) = (all_ours[place], all_doubles[place]);
@@ -100,6 +116,7 @@ fn compare_step(site: &Wild, next: &[i32], seen: &mut Seen) {
                 let side = if place < site.north(0, 0) { site.card.dx } else { site.card.dy };
                 let allowed = 14.0 * fastest / sum + 1.0 + 1.0 + 8.0 * GRAVITY * seconds / f64::from(side) + 1e-3;
                 seen.compare_velocity(whole, double, allowed);
+                seen.compare_forms(double, by_terms[place]);
             }
             [true, true] => seen.banks += 1,
             _ => seen.by_one += 1,
@@ -166,9 +183,10 @@ fn deep_water() {
 }
 
 fn report(what: &str, seen: &Seen) {
-    let Seen { height, velocity, share, heights, velocities, dry, banks, by_one } = seen;
+    let Seen { height, velocity, share, forms, heights, velocities, dry, banks, by_one } = seen;
     println!("floats, {what}: {heights} heights off by at most {height:.2} µm");
     println!("floats, {what}: {velocities} velocities off by at most {velocity:.2} µm/s, {dry} dry faces left out");
+    println!("floats, {what}: by pressure and ground apart the doubles' own differ by at most {forms:e} µm/s");
     println!("floats, {what}: {banks} dry banks by both programs, {by_one} by one of them left out");
     println!("floats, {what}: at most {:.0} % of what the roundings allow (a thin film of water is allowed much)", 100.0 * share);
 }
