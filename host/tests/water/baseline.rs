@@ -25,10 +25,14 @@ fn steps_and_runs() {
         let site = wild::any(rng);
         let mut next = room(rng, site.state.len());
         let (mut skipped, mut expected) = (next.clone(), next.clone());
+        let (mut textbook, mut textbook_skipped) = (next.clone(), next.clone());
         let number = model::step(site.card, &site.ground, &site.state, &mut expected);
         assert_eq!(dividing.step(site.card, &site.ground, &site.state, &mut next), number);
         assert_eq!(skipping.step(site.card, &site.ground, &site.state, &mut skipped), number);
         assert!(next == expected && skipped == expected);
+        assert_eq!(dividing.step_textbook(site.card, &site.ground, &site.state, &mut textbook), number);
+        assert_eq!(skipping.step_textbook(site.card, &site.ground, &site.state, &mut textbook_skipped), number);
+        assert!(textbook == expected && textbook_skipped == expected, "by the textbook engine");
         given.count(number);
         banks += if number == 0 { site.banks_in(&next) } else { 0 };
         let lists = (site.state.clone(), room(rng, site.state.len()));

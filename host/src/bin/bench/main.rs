@@ -1,7 +1,8 @@
 //! The benchmark: each call of the library as a ratio to the same work in plain Rust, same input, same process, turn by turn.
 //!
-//! `cargo run --release --bin bench` prints two tables, that of step and run and that of a refused step and the other calls. A step in plain Rust always divides, or, in the second
-//! column, skips a division where what it would divide is 0. All must give the same answers and lists, or it stops.
+//! `cargo run --release --bin bench` prints three tables: that of step and run, that of a refused step and the other calls, and that of the
+//! textbook engine's step. A step in plain Rust always divides, or, in the first table's second column, skips a division where what it would
+//! divide is 0. All must give the same answers and lists, or it stops.
 //! `cargo run --release --bin bench long` runs 10,000 steps on 128×128 and prints what a step costs along the way.
 
 mod clock;
@@ -53,6 +54,29 @@ fn bench_step(site: &Measured, water: &str) {
     ]);
     assert!(next == dividing_next && next == skipping_next, "all step alike");
     row("step", card.columns, water, 1.0, medians);
+}
+
+/// The textbook engine's step, beside plain Rust's and beside our first engine's.
+fn bench_textbook(site: &Measured, water: &str) {
+    let Measured { card, ground, state } = site;
+    let (mut next, mut plain_next, mut first_next) = (vec![0; state.len()], vec![0; state.len()], vec![0; state.len()]);
+    let mut plain = Plain::<false>::new();
+    let medians = compare([
+        &mut || {
+            assert!(calls::step_textbook(*card, ground, state, &mut next).is_ok());
+            seen(&mut next);
+        },
+        &mut || {
+            assert_eq!(plain.step_textbook(*card, ground, state, &mut plain_next), 0);
+            seen(&mut plain_next);
+        },
+        &mut || {
+            assert!(calls::step(*card, ground, state, &mut first_next).is_ok());
+            seen(&mut first_next);
+        },
+    ]);
+    assert!(next == plain_next && next == first_next, "all step alike");
+    row("textbook step", card.columns, water, 1.0, medians);
 }
 
 /// A step that the look at the step limit refuses, and only at the last cell.
@@ -224,5 +248,13 @@ fn main() {
         bench_refused(&site, "moving");
         bench_search(&site, "moving");
         bench_sheet(&site, "moving");
+    }
+    println!();
+    println!("| work | site | water | ours, µs | plain Rust, µs | ratio | our first engine, µs | ratio |");
+    println!("|---|---|---|---|---|---|---|---|");
+    for size in [8, 16, 128] {
+        for water in Water::ALL {
+            bench_textbook(&site(size, water), water.name());
+        }
     }
 }

@@ -1,5 +1,6 @@
 //! The same work in plain Rust, as a good programmer would write it for speed: safe, on slices, i64 arithmetic, the same checks, three
-//! divisions a face, buffers made once and used again. The benchmark measures the library beside it; a test holds it to the model.
+//! divisions a face (four by the textbook engine), buffers made once and used again. The benchmark measures the library beside it; a test
+//! holds it to the model.
 
 mod search;
 mod sheet;

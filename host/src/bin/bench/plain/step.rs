@@ -1,6 +1,7 @@
-//! The step and the run. `tide` holds the new heights and what crosses each face, in the state's own layout. One flag says whether a
-//! division is left out where what it would divide is 0; without it each inner face divides once for what crosses it and, where
-//! there is water and no dry bank, twice for its new velocity.
+//! The step, by both engines, and the run. `tide` holds the new heights and what crosses each face, in the state's own layout. One flag says
+//! whether a division is left out where what it would divide is 0; without it each inner face divides once for what crosses it and, where
+//! there is water and no dry bank, twice for its new velocity. The other flag says whether the step is the textbook engine's, which there
+//! divides once more.
 
 use super::site::{check, speed_fits};
 use water::raw::{Card, Tally};
@@ -31,10 +32,18 @@ impl<const SKIPS: bool> Plain<SKIPS> {
     }
 
     pub fn step(&mut self, card: Card, ground: &[i32], state: &[i32], next: &mut [i32]) -> u32 {
+        self.step_by::<false>(card, ground, state, next)
+    }
+
+    pub fn step_textbook(&mut self, card: Card, ground: &[i32], state: &[i32], next: &mut [i32]) -> u32 {
+        self.step_by::<true>(card, ground, state, next)
+    }
+
+    fn step_by<const TEXTBOOK: bool>(&mut self, card: Card, ground: &[i32], state: &[i32], next: &mut [i32]) -> u32 {
         let mut number = check(&card, ground, state, next.len() == state.len());
         if number == 0 {
             let draft = &mut self.draft[..state.len()];
-            number = advance::<SKIPS>(&card, ground, state, &mut self.tide[..state.len()], draft);
+            number = advance::<SKIPS, TEXTBOOK>(&card, ground, state, &mut self.tide[..state.len()], draft);
             if number == 0 {
                 next.copy_from_slice(draft);
             }
@@ -54,7 +63,7 @@ impl<const SKIPS: bool> Plain<SKIPS> {
         // the two lists change places with every step
         let (mut now, mut then) = (state, scratch);
         while tally.steps < card.steps {
-            tally.reason = advance::<SKIPS>(&card, ground, now, tide, then);
+            tally.reason = advance::<SKIPS, false>(&card, ground, now, tide, then);
             if tally.reason != 0 {
                 break;
             }
@@ -155,12 +164,14 @@ struct Face {
     new_k: i32,
     new_l: i32,
     rise: i64,
+    // of the ground alone
+    ground_rise: i64,
     flows: [i64; 4],
     beyond: [i32; 4],
 }
 
 impl Face {
-    fn new_velocity<const SKIPS: bool>(&self, force: i64, side: i64) -> i64 {
+    fn new_velocity<const SKIPS: bool, const TEXTBOOK: bool>(&self, force: i64, side: i64) -> i64 {
         let new_sum = sum(self.new_k, self.new_l);
         if new_sum == 0 || self.dry_bank() {
             return 0;
@@ -170,11 +181,19 @@ impl Face {
         for (&flow, &velocity) in self.flows.iter().zip(&self.beyond) {
             carried += (-flow).max(0) * i64::from(velocity);
         }
-        quotient::<SKIPS>(carried, new_sum) - quotient::<SKIPS>(force * self.rise, side)
+        let rise = if TEXTBOOK { quotient::<SKIPS>(self.terms(), new_sum) } else { self.rise };
+        quotient::<SKIPS>(carried, new_sum) - quotient::<SKIPS>(force * rise, side)
+    }
+
+    /// The pressure term and the ground term, added.
+    fn terms(&self) -> i64 {
+        let (k, l) = (i64::from(self.new_k), i64::from(self.new_l));
+        l * l - k * k + (k + l) * self.ground_rise
     }
 
     /// A dry cell's surface is its ground: the rise says whether that is at or above the other's surface. Most faces have no dry cell, and
     /// one test is enough for them.
+    #[allow(clippy::nonminimal_bool)]
     fn dry_bank(&self) -> bool {
         let (k_dry, l_dry) = (self.new_k == 0, self.new_l == 0);
         (k_dry || l_dry) && ((k_dry && self.rise <= 0) || (l_dry && self.rise >= 0))
@@ -191,7 +210,13 @@ fn fill(word: &mut i32, velocity: i64) -> bool {
     i32::try_from(velocity).map_or(false, speed_fits)
 }
 
-fn eastward<const SKIPS: bool>(card: &Card, ground: &[i32], state: &Parts, tide: &Parts, next: &mut [i32]) -> bool {
+fn eastward<const SKIPS: bool, const TEXTBOOK: bool>(
+    card: &Card,
+    ground: &[i32],
+    state: &Parts,
+    tide: &Parts,
+    next: &mut [i32],
+) -> bool {
     let (columns, rows) = (card.columns as usize, card.rows as usize);
     let (force, side) = (9_806_650 * i64::from(card.dt), 1_000 * i64::from(card.dx));
     let mut fit = true;
@@ -216,6 +241,7 @@ fn eastward<const SKIPS: bool>(card: &Card, ground: &[i32], state: &Parts, tide:
                 new_k: new[i - 1],
                 new_l: new[i],
                 rise: sum(new[i], ground[i]) - sum(new[i - 1], ground[i - 1]),
+                ground_rise: i64::from(ground[i]) - i64::from(ground[i - 1]),
                 flows: [
                     sum(own[i], own[i + 1]),
                     -sum(own[i], own[i - 1]),
@@ -224,13 +250,19 @@ fn eastward<const SKIPS: bool>(card: &Card, ground: &[i32], state: &Parts, tide:
                 ],
                 beyond: [u[i + 1], u[i - 1], u_north[i], u_south[i]],
             };
-            fit &= fill(&mut row[i], face.new_velocity::<SKIPS>(force, side));
+            fit &= fill(&mut row[i], face.new_velocity::<SKIPS, TEXTBOOK>(force, side));
         }
     }
     fit
 }
 
-fn northward<const SKIPS: bool>(card: &Card, ground: &[i32], state: &Parts, tide: &Parts, next: &mut [i32]) -> bool {
+fn northward<const SKIPS: bool, const TEXTBOOK: bool>(
+    card: &Card,
+    ground: &[i32],
+    state: &Parts,
+    tide: &Parts,
+    next: &mut [i32],
+) -> bool {
     let (columns, rows) = (card.columns as usize, card.rows as usize);
     let (force, side) = (9_806_650 * i64::from(card.dt), 1_000 * i64::from(card.dy));
     let mut fit = true;
@@ -253,6 +285,7 @@ fn northward<const SKIPS: bool>(card: &Card, ground: &[i32], state: &Parts, tide
                 new_k: new_k[i],
                 new_l: new_l[i],
                 rise: sum(new_l[i], ground_l[i]) - sum(new_k[i], ground_k[i]),
+                ground_rise: i64::from(ground_l[i]) - i64::from(ground_k[i]),
                 flows: [
                     sum(own[i], ahead[i]),
                     -sum(own[i], behind[i]),
@@ -261,14 +294,20 @@ fn northward<const SKIPS: bool>(card: &Card, ground: &[i32], state: &Parts, tide
                 ],
                 beyond: [u_ahead[i], u_behind[i], u[(i + 1).min(columns - 1)], u[i.saturating_sub(1)]],
             };
-            fit &= fill(&mut row[i], face.new_velocity::<SKIPS>(force, side));
+            fit &= fill(&mut row[i], face.new_velocity::<SKIPS, TEXTBOOK>(force, side));
         }
     }
     fit
 }
 
 /// One step of a site that passed the first three checks: 0 and the next state, or 4, 5 or 7 and anything in `next`.
-fn advance<const SKIPS: bool>(card: &Card, ground: &[i32], state: &[i32], tide: &mut [i32], next: &mut [i32]) -> u32 {
+fn advance<const SKIPS: bool, const TEXTBOOK: bool>(
+    card: &Card,
+    ground: &[i32],
+    state: &[i32],
+    tide: &mut [i32],
+    next: &mut [i32],
+) -> u32 {
     let (columns, rows) = (card.columns as usize, card.rows as usize);
     let old = parts(card, state);
     if !limit_kept(card, &old) {
@@ -284,8 +323,8 @@ fn advance<const SKIPS: bool>(card: &Card, ground: &[i32], state: &[i32], tide: 
     let (heights, velocities) = next.split_at_mut(columns * rows);
     let (east, north) = velocities.split_at_mut((columns + 1) * rows);
     heights.copy_from_slice(tide.heights);
-    let mut fit = eastward::<SKIPS>(card, ground, &old, &tide, east);
-    fit &= northward::<SKIPS>(card, ground, &old, &tide, north);
+    let mut fit = eastward::<SKIPS, TEXTBOOK>(card, ground, &old, &tide, east);
+    fit &= northward::<SKIPS, TEXTBOOK>(card, ground, &old, &tide, north);
     if fit {
         0
     } else {
