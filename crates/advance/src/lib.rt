@@ -1,7 +1,7 @@
 // One step of a sound site, with a tide to work in. The still rows are marked first, and passed over by all that follows.
 ghost use Rattle.rules.specs.Site.{readGround, readState};
 ghost use Rattle.rules.specs.Step.{newVelocitiesFit, nextStateBy};
-ghost use Rattle.rules.specs.Textbook.{engine};
+ghost use Rattle.laws.specs.Engines.{engine};
 ghost use Rattle.laws.specs.Tested.{Filled};
 ghost use Rattle.advance.specs.Advance.{StepRoom, MarkedRoom, LimitedRoom, NextRoom, Advanced};
 use rules::Card;

@@ -1,13 +1,14 @@
 -- The numbers around an inner face are in their ranges: what the arithmetic of a face requires.
 use Prim.Native.Nat.{ℕ, zero, suc, zero-le}
-use mathlib.Core.Path.{refl, sym, subst}
+use mathlib.Core.Path.{_≡_, refl, sym, subst}
 use mathlib.Core.Bool.{Bool, not}
 use mathlib.Core.List.{List}
 use native.Mathlib.Omega.{arith}
 use lib.IntN.{ℤ, pos}
 use lib.Signed.{leZ}
+use lib.ListN.{length}
 use Rattle.rules.specs.declared.Card.{Card}
-use Rattle.rules.specs.Site.{Water, readGround, readState}
+use Rattle.rules.specs.Site.{Water, readGround, readState, stateLength}
 use Rattle.rules.specs.Step.{walled, after, before, newHeight, newHeightsFit}
 use Rattle.laws.specs.Tests.{to-T}
 use Rattle.laws.specs.Grids.{allAt-at}
@@ -86,10 +87,15 @@ module _ {c : Card} {g s t : List ℤ} (f : Flowing c g s t) where
 
 -- those of a still face, and the places of its cells
 module _ {c : Card} {g s t : List ℤ} {east : Bool} {i j : ℕ} (a : AtFace c g s t east i j) where
+  place-in : {x : List ℤ} → length x ≡ stateLength c → StillPlace c g x east i j
+  place-in long = let f = facts (sound-of (a .flowing)) in record { card = f .card; ground = f .lengths .ground; tide = long; column = a .column; row = a .row }
+
   pub still-place : StillPlace c g t east i j
-  still-place =
-      let f = facts (sound-of (a .flowing)) in
-      record { card = f .card; ground = f .lengths .ground; tide = long-of (a .flowing .tide); column = a .column; row = a .row }
+  still-place = place-in (long-of (a .flowing .tide))
+
+  -- and in the old state, which stands there for the edit `velocities/levels_of_the_old_state`
+  pub old-place : StillPlace c g s east i j
+  old-place = place-in (facts (sound-of (a .flowing)) .lengths .state)
 
   pub still-fits : FaceFits (stillFace (readGround c g) (readState c t .height) east i j)
   unfolding stillFace

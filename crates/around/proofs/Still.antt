@@ -1,7 +1,8 @@
--- Between two still rows of cells nothing crosses any face, so that a face there carries no momentum: its new velocity is that of the still face.
+-- The still face in the place of an inner face has its levels. Between two still rows of cells nothing crosses any face, so that a face there carries no momentum:
+-- its new velocity is that of the still face.
 use Prim.Native.Nat.{ℕ}
 use mathlib.Core.Path.{_≡_, _∙_, refl, sym}
-use mathlib.Core.Bool.{Bool, false, not}
+use mathlib.Core.Bool.{Bool, not}
 use mathlib.Core.List.{List}
 use lib.IntN.{ℤ}
 use Rattle.rules.specs.declared.Card.{Card}
@@ -56,6 +57,6 @@ module _ {c : Card} {g s t : List ℤ} {east : Bool} {i j : ℕ} (a : AtFace c g
   -- so it has its new velocity
   pub still-velocity : (dt d : ℕ) → newVelocity dt d (stillFace (readGround c g) (height a) east i j) ≡ newVelocity dt d (innerFace c (readGround c g) (readState c s) east i j)
   still-velocity dt d =
-      same-velocity (levels-same a) false dt d
+      same-velocity (levels-same a) dt d
       (carries-nothing (all-still (readGround c g) (height a) east i j)
       ∙ rw (← gathered-is c (readGround c g) (readState c s) east i j) (sym (carries-nothing gathered-still)))

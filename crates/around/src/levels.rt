@@ -1,4 +1,5 @@
-// The levels on both sides of a still face: the four numbers that its new velocity asks for, gathered from ground and tide.
+// The levels on both sides of an inner face, four numbers gathered from ground and tide: they say whether it halts and what its rise is, and of a still face they are all
+// that its new velocity asks for.
 use layout::ways;
 use layout::words::height_at;
 use rules::Card;
@@ -7,7 +8,7 @@ ghost use mathlib.Core.Path.{_≡_};
 ghost use Rattle.rules.specs.Site.{readGround, readState};
 ghost use Rattle.around.specs.Still.{stillFace, StillPlace};
 
-// The inner face of which (i, j) is cell K.
+// The inner face of which (i, j) is cell K, as if it were still: with 0 for all that is no level.
 pub fn still_face(card: Card, east: bool, ground: &[i32], tide: &[i32], i: usize, j: usize) -> Face
     requires { ⌜ StillPlace card (now ground) (now tide) east i j ⌝ }
     ensures { λ r. ⌜ r ≡ stillFace (readGround card (now (ground .entry))) (readState card (now (tide .entry)) .height) east i j ⌝ }

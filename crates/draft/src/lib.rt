@@ -1,6 +1,6 @@
 // One step of a sound site, in a tide and a draft that are lent to it: all of the next state is handed over, or nothing.
 ghost use Rattle.rules.specs.Contracts.{StepContractBy};
-ghost use Rattle.rules.specs.Textbook.{engine};
+ghost use Rattle.laws.specs.Engines.{engine};
 ghost use Rattle.draft.specs.Draft.{Drafting};
 use rules::Card;
 

@@ -19,6 +19,7 @@ pub mod Walls
 pub mod Still
 pub mod Velocity
 pub mod Textbook
+pub mod Engines
 pub mod Levels
 pub mod Rules
 pub mod Keeps

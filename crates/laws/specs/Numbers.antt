@@ -1,10 +1,10 @@
 -- Laws of the integers that the kit lacks: the test for 0, quotients of 0, the order of `leZ`, and signs.
-use Prim.Native.Nat.{ℕ, zero, suc, _+_, _-_, zero-le}
+use Prim.Native.Nat.{ℕ, zero, suc, _+_, _-_, _<_, zero-le}
 use mathlib.Core.Path.{_≡_, refl, ap}
 use mathlib.Core.Bool.{Bool, true, false, cond}
-use native.Mathlib.Nat.{suc-ne-zero, ne-of-gt, zero-div, le-refl, le-trans, le-antisymm}
+use native.Mathlib.Nat.{suc-ne-zero, pos-of-ne-zero, ne-of-gt, zero-div, le-refl, le-trans, le-antisymm}
 use native.Mathlib.Omega.{arith}
-use borrow.Author.Tests.{ne-eqb}
+use borrow.Author.Tests.{eqb-false, ne-eqb}
 use lib.IntN.{ℤ, pos, negsuc, negℤ, natAbs, _+ℤ_}
 use lib.Signed.{leZ, ltZ, quotZ}
 use lib.Dec.{T, eqb, ltb, eqb→eq, ltb→lt, leb→le, le→leb, lt→ltb}
@@ -24,6 +24,9 @@ zero-is z t = no-size z (eqb→eq (natAbs z) 0 t)
 pub above-is-not-0 : (z : ℤ) → T (ltZ (pos 0) z) → eqb (natAbs z) 0 ≡ false
 above-is-not-0 (pos n) t = ne-eqb n 0 (ne-of-gt (ltb→lt 0 n t))
 above-is-not-0 (negsuc n) t = absurd t
+
+pub not-0-is-above : (z : ℤ) → eqb (natAbs z) 0 ≡ false → 0 < natAbs z
+not-0-is-above z e = pos-of-ne-zero (eqb-false (natAbs z) 0 e)
 
 pub abs-neg : (a : ℤ) → natAbs (negℤ a) ≡ natAbs a
 abs-neg (pos zero) = refl

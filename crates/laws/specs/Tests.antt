@@ -1,6 +1,6 @@
--- Laws of tests that the kit lacks: a test as a truth value and as a fact, and tests joined by `_&&_` and `_||_`.
+-- Laws of tests that the kit lacks: a test as a truth value and as a fact, and tests joined by `_&&_`.
 use mathlib.Core.Path.{_≡_, refl, sym, ap₂, _∙_, subst}
-use mathlib.Core.Bool.{Bool, true, false, cond, not, _&&_, _||_, and-comm}
+use mathlib.Core.Bool.{Bool, true, false, cond, not, _&&_, and-comm}
 use lib.Dec.{T}
 
 pub both-ways : (a b : Bool) → (T a → T b) → (T b → T a) → a ≡ b
@@ -39,10 +39,6 @@ and-left false b t = t
 pub and-right : (a b : Bool) → T (a && b) → T b
 and-right true b t = t
 and-right false b t = absurd t
-
-pub neither-left : (a b : Bool) → (a || b) ≡ false → a ≡ false
-neither-left true b e = e
-neither-left false b e = refl
 
 -- three and four tests, joined as `_&&_` joins them
 pub record Three (a b c : Bool) : Type 0 where

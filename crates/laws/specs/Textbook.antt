@@ -31,5 +31,5 @@ module _ (f : Face) where
     pub no-rest : newSum f *ℤ textbookRise f ≡ pressureTerm f +ℤ groundTerm f
     no-rest = ap (λ (x : ℤ). newSum f *ℤ x) textbook-rise ∙ sym terms-are
 
-  pub same-velocity : (dt d : ℕ) → textbookVelocity dt d f ≡ newVelocity dt d f
-  same-velocity dt d = same-rise textbookRise rise dt d f textbook-rise
+  pub one-velocity : (dt d : ℕ) → textbookVelocity dt d f ≡ newVelocity dt d f
+  one-velocity dt d = same-rise textbookRise rise dt d f textbook-rise

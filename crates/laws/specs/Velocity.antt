@@ -7,7 +7,7 @@ use native.Mathlib.Nat.{mul-zero, zero-div}
 use lib.IntN.{ℤ, pos, _-ℤ_}
 use Rattle.rules.specs.declared.Face.{Face}
 use Rattle.rules.specs.Site.{isZero}
-use Rattle.rules.specs.Step.{newSum, carried, carriedPart, slope, dryBank, halts, newVelocityBy}
+use Rattle.rules.specs.Step.{newSum, carried, carriedPart, slope, dryBank, newVelocityBy}
 use Rattle.laws.specs.Tests.{either-way}
 use Rattle.laws.specs.Numbers.{zero-quot}
 
@@ -16,39 +16,34 @@ pub level : (dt d : ℕ) {r : ℤ} → r ≡ pos 0 → slope dt d r ≡ pos 0
 unfolding slope
 level dt d e = rw (e, mul-zero, zero-div)
 
-module _ (rise : Face → ℤ) (dt d : ℕ) (f : Face) where
-  pub halted : halts f ≡ true → newVelocityBy rise dt d f ≡ pos 0
+module _ (by : Face → ℤ) (dt d : ℕ) (f : Face) where
+  pub without-water : isZero (newSum f) ≡ true → newVelocityBy by dt d f ≡ pos 0
   unfolding newVelocityBy
-  halted e = rw e
+  without-water e = rw e
 
-  pub without-water : isZero (newSum f) ≡ true → newVelocityBy rise dt d f ≡ pos 0
-  without-water e = halted (rw e)
-
-  pub on-a-bank : dryBank f ≡ true → newVelocityBy rise dt d f ≡ pos 0
-  on-a-bank e = halted (rw (e, or-true (isZero (newSum f))))
-
-  pub moved : halts f ≡ false → newVelocityBy rise dt d f ≡ carriedPart f -ℤ slope dt d (rise f)
+  pub on-a-bank : dryBank f ≡ true → newVelocityBy by dt d f ≡ pos 0
   unfolding newVelocityBy
-  moved e = rw e
+  on-a-bank e = rw (e, or-true (isZero (newSum f)))
 
-  pub elsewhere : isZero (newSum f) ≡ false → dryBank f ≡ false → newVelocityBy rise dt d f ≡ carriedPart f -ℤ slope dt d (rise f)
-  elsewhere e n = moved (rw (e, n))
+  pub elsewhere : isZero (newSum f) ≡ false → dryBank f ≡ false → newVelocityBy by dt d f ≡ carriedPart f -ℤ slope dt d (by f)
+  unfolding newVelocityBy
+  elsewhere e n = rw (e, n)
 
   -- where nothing is carried
   module _ (nothing : carried f ≡ pos 0) where
-    pub slope-alone : isZero (newSum f) ≡ false → dryBank f ≡ false → newVelocityBy rise dt d f ≡ pos 0 -ℤ slope dt d (rise f)
+    pub slope-alone : isZero (newSum f) ≡ false → dryBank f ≡ false → newVelocityBy by dt d f ≡ pos 0 -ℤ slope dt d (by f)
     slope-alone e n = elsewhere e n ∙ rw (nothing, zero-quot (newSum f))
 
-    pub nothing-pulls : rise f ≡ pos 0 → newVelocityBy rise dt d f ≡ pos 0
+    pub nothing-pulls : by f ≡ pos 0 → newVelocityBy by dt d f ≡ pos 0
     unfolding newVelocityBy
     nothing-pulls r = rw (nothing, level dt d r, zero-quot (newSum f)) (either-way (isZero (newSum f) || dryBank f) (pos 0))
 
 -- two rises that agree where there is water give the same new velocity
-module _ (rise rise′ : Face → ℤ) (dt d : ℕ) (f : Face) (agree : isZero (newSum f) ≡ false → rise f ≡ rise′ f) where
-  with-or-without : (dry : Bool) → isZero (newSum f) ≡ dry → newVelocityBy rise dt d f ≡ newVelocityBy rise′ dt d f
+module _ (by by′ : Face → ℤ) (dt d : ℕ) (f : Face) (agree : isZero (newSum f) ≡ false → by f ≡ by′ f) where
+  with-or-without : (dry : Bool) → isZero (newSum f) ≡ dry → newVelocityBy by dt d f ≡ newVelocityBy by′ dt d f
   unfolding newVelocityBy slope
-  with-or-without true e = without-water rise dt d f e ∙ sym (without-water rise′ dt d f e)
+  with-or-without true e = without-water by dt d f e ∙ sym (without-water by′ dt d f e)
   with-or-without false e = rw (agree e)
 
-  pub same-rise : newVelocityBy rise dt d f ≡ newVelocityBy rise′ dt d f
+  pub same-rise : newVelocityBy by dt d f ≡ newVelocityBy by′ dt d f
   same-rise = with-or-without (isZero (newSum f)) refl

@@ -1,20 +1,22 @@
--- Document 02, [5]: the textbook engine beside document 01's. The division of its two terms by H' leaves no rest, both engines give every face the same new velocity,
--- and every answer and every list of the one call is that of the other, for every input, refused ones too.
+-- Document 02, [5]: the textbook engine beside the first one. The division of its two terms by H' leaves no rest, both engines give every face the same new
+-- velocity, and every answer and every list of the one call is that of the other, for every input, refused ones too.
 use Prim.Native.Nat.{ℕ}
 use mathlib.Core.Path.{_≡_, _∙_, sym, ap, subst}
+use mathlib.Core.Bool.{true}
 use mathlib.Core.List.{List}
 use lib.IntN.{ℤ, pos, _+ℤ_, _*ℤ_}
 use lib.Signed.{ltZ}
 use lib.Dec.{T}
 use Rattle.rules.specs.declared.Card.{Card}
 use Rattle.rules.specs.declared.Face.{Face}
-use Rattle.rules.specs.Step.{Rule, newSum, newVelocity}
+use Rattle.rules.specs.Step.{Rule, newSum, rise, dryBank, newVelocity}
 use Rattle.rules.specs.Textbook.{pressureTerm, groundTerm, textbookRise, textbookVelocity}
 use Rattle.rules.specs.Calls.{stepAnswerBy, stepNextBy, stepAnswer, stepNext, textbookAnswer, textbookNext}
 use Rattle.rules.specs.Contracts.{StepContract, TextbookContract}
 use Rattle.laws.specs.Numbers.{above-is-not-0}
 use Rattle.laws.specs.Rules.{same-rule}
-use Rattle.laws.specs.Textbook.{no-rest, same-velocity}
+use Rattle.laws.specs.Velocity.{on-a-bank}
+use Rattle.laws.specs.Textbook.{no-rest, one-velocity}
 
 -- H' times the quotient is the sum of the two terms, of every face with H' above 0
 pub leaves-no-rest : (f : Face) → T (ltZ (pos 0) (newSum f)) → newSum f *ℤ textbookRise f ≡ pressureTerm f +ℤ groundTerm f
@@ -22,9 +24,13 @@ leaves-no-rest f above = no-rest f (above-is-not-0 (newSum f) above)
 
 -- the two rules are one, on every face
 pub one-rule : textbookVelocity ≡ newVelocity
-one-rule = same-rule textbookVelocity newVelocity (λ dt d f. same-velocity f dt d)
+one-rule = same-rule textbookVelocity newVelocity (λ dt d f. one-velocity f dt d)
 
--- so all that is promised of document 01's step is promised of the textbook's
+-- and [2]'s bank rule stands in both
+pub banks-in-both : (dt d : ℕ) (f : Face) → dryBank f ≡ true → (newVelocity dt d f ≡ pos 0) × (textbookVelocity dt d f ≡ pos 0)
+banks-in-both dt d f e = (on-a-bank rise dt d f e, on-a-bank textbookRise dt d f e)
+
+-- so all that is promised of the first engine's step is promised of the textbook's
 pub carries-over : (Promised : Rule → Type 0) → Promised newVelocity → Promised textbookVelocity
 carries-over Promised = subst Promised (sym one-rule)
 

@@ -54,9 +54,10 @@ pub use Rattle.promises.specs.WhatCame.{balance, carried-between, slope-
 -- numbers, a pond with a shore that lies still, and by how little it moves
 pub use Rattle.promises.specs.StillWater.{still-water, still-of-the-step, still-of-the-run}
 pub use Rattle.promises.specs.Pond.{pond-on-numbers}
--- of document 02's [5], the textbook engine beside document 01's: the division of its two terms by H' leaves no rest; both give every face the same new velocity, so
--- that what is promised of the one is promised of the other; every answer and every list of the textbook call is the first engine's, for every input, refused ones too
-pub use Rattle.promises.specs.BothEngines.{leaves-no-rest, one-rule, carries-over, same-answer, same-next, engines-agree}
+-- of document 02's [5], the textbook engine beside the first one: the division of its two terms by H' leaves no rest; both give every face the same new velocity,
+-- 0 on a dry bank, so that what is promised of the one is promised of the other; every answer and every list of the textbook call is the first engine's, for every
+-- input, refused ones too
+pub use Rattle.promises.specs.BothEngines.{leaves-no-rest, one-rule, banks-in-both, carries-over, same-answer, same-next, engines-agree}
 
 -- ---- Demand 3
 

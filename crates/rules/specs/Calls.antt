@@ -29,14 +29,14 @@ stepAnswerBy rule c g s next = firstRefusal (checkWith c g s (length next)) (ste
 unfoldable pub stepNextBy : Rule → Card → (ground state next : List ℤ) → List ℤ
 stepNextBy rule c g s next = ifDone (stepAnswerBy rule c g s next) (nextStateBy rule c g s) next
 
--- by document 01's rule
+-- by the first engine, document 01's
 abbrev pub stepAnswer : Card → (ground state next : List ℤ) → ℕ
 stepAnswer = stepAnswerBy newVelocity
 
 abbrev pub stepNext : Card → (ground state next : List ℤ) → List ℤ
 stepNext = stepNextBy newVelocity
 
--- by the textbook's (document 02, [5])
+-- by the textbook engine (document 02, [5])
 abbrev pub textbookAnswer : Card → (ground state next : List ℤ) → ℕ
 textbookAnswer = stepAnswerBy textbookVelocity
 

@@ -17,7 +17,7 @@ use Rattle.rules.specs.Step.{Rule, newVelocity}
 use Rattle.rules.specs.Textbook.{textbookVelocity}
 use Rattle.rules.specs.Calls.{stepAnswerBy, stepNextBy, runTally, runState, runScratch, searchAnswer, searchFound, readAnswer, readGroundList, readStateList, writeAnswer, writeBytes, textPart, textScratch}
 
--- ---- step, over the rule for new velocities; by document 01's, and by the textbook's
+-- ---- step, over the rule for new velocities; by the first engine, and by the textbook's
 
 pub record StepContractBy (rule : Rule) (c : Card) (ground state next : List ℤ) (number : ℕ) (nextAtExit : List ℤ) : Type 0 where
   pub answer : number ≡ stepAnswerBy rule c ground state next

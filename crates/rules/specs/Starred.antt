@@ -1,11 +1,12 @@
 -- Document 01, "Numbers to check by": the starred cases, in a single table under a single claim, proved by computation; and cases of document 02's [9], [8] and [2].
--- Each step is made by both engines, document 01's and the textbook's ([5]).
+-- Each row of a step is made by both engines ([5]).
 use Prim.Native.Nat.{ℕ}
 use mathlib.Core.Path.{_≡_, refl}
 use mathlib.Core.List.{List, [], _∷_, _++_}
 use lib.ListN.{replicate}
 use lib.IntN.{ℤ, pos, negℤ}
 use Rattle.rules.specs.declared.Card.{Card}
+use Rattle.rules.specs.declared.Face.{Face}
 use Rattle.rules.specs.Grid.{tabulate, grid, all, allAt, greatest, sum, sumAt}
 use Rattle.rules.specs.Site.{readGround, readState, writeState, stateLength, sumOfHeights, sizesFit, sidesFit, timesFit, cardFits, lengthsFit, groundsFit, heightsFit, velocitiesFit, wallsStill, valuesFit, firstOf, checkAlso, checkWith, firstRefusal, ifDone}
 use Rattle.rules.specs.Step.{walled, transfer, eastTransfer, northTransfer, forward, backward, withinLimit, newHeight, after, before, eastFace, northFace, outAhead, outBehind, outAbove, outBelow, positive, ownShare, brought, carried, rise, slope, isBank, dryBank, newVelocityBy, newEast, newNorth, next, limitKept, newHeightsFit, newVelocitiesFit, answer, number, stepNumberBy, nextStateBy, nextState}
@@ -31,6 +32,16 @@ passing a b c u v = a ∷ b ∷ c ∷ pos 0 ∷ u ∷ v ∷ pos 0 ∷ flat 6
 
 unfoldable pub three : (west middle east : ℤ) → List ℤ
 three a b c = passing a b c (pos 0) (pos 0)
+
+-- document 01's pond, and the face between its first two cells
+unfoldable pub pondGround : List ℤ
+pondGround = pos 0 ∷ pos 400000 ∷ pos 100000 ∷ []
+
+unfoldable pub pond : List ℤ
+pond = three (pos 1000000) (pos 600000) (pos 900000)
+
+unfoldable pub pondFace : Face
+pondFace = eastFace (oneRow 3) (readGround (oneRow 3) pondGround) (readState (oneRow 3) pond) 0 0
 
 -- document 02's case of [9]: water that passes through, both inner faces at 6,000,000
 unfoldable pub through : List ℤ
@@ -75,7 +86,11 @@ pub record Starred : Type 0 where
   pub transfer-east : transfer 100 1000000 (pos 3) (pos 0) (pos 5000000) ≡ pos 1
   pub transfer-west : transfer 100 1000000 (pos 0) (pos 3) (negℤ (pos 5000000)) ≡ negℤ (pos 1)
   -- a pond over uneven ground lies still
-  pub still-pond : Steps 3 (pos 0 ∷ pos 400000 ∷ pos 100000 ∷ []) (three (pos 1000000) (pos 600000) (pos 900000)) (three (pos 1000000) (pos 600000) (pos 900000))
+  pub still-pond : Steps 3 pondGround pond pond
+  -- [5], the textbook's pressure, and its two terms between the pond's first two cells: they are opposite, and so nothing pulls
+  pub pressure-doubled : pressure (pos 2000000) ≡ pos 4000000000000
+  pub pressure-in-the-pond : pressureTerm pondFace ≡ negℤ (pos 640000000000)
+  pub ground-in-the-pond : groundTerm pondFace ≡ pos 640000000000
   -- a dry bank, document 01's case, with document 02's [2]: it no longer pulls
   pub dry-bank : Steps 2 (pos 0 ∷ pos 1500000 ∷ []) (two (pos 1000000) (pos 0) (pos 0)) (two (pos 1000000) (pos 0) (pos 0))
   -- [2], a bank just as high as the water, and a velocity left on its face: that is 0 now; a bank 1 µm lower is none, and the velocity stays
@@ -95,7 +110,7 @@ pub record Starred : Type 0 where
   pub text-15000 : depthText (pos 15000) ≡ 50 ∷ 32 ∷ 99 ∷ 109 ∷ []
 
 pub starred : Starred
-unfolding oneRow flat two passing three through square four tabulate grid all allAt greatest sum sumAt readGround readState writeState stateLength sumOfHeights sizesFit sidesFit timesFit cardFits lengthsFit groundsFit heightsFit velocitiesFit wallsStill valuesFit firstOf checkAlso checkWith firstRefusal ifDone walled transfer eastTransfer northTransfer forward backward withinLimit newHeight after before eastFace northFace outAhead outBehind outAbove outBelow positive ownShare brought carried rise slope isBank dryBank newVelocityBy newEast newNorth next limitKept newHeightsFit newVelocitiesFit answer number stepNumberBy nextStateBy pressure pressureTerm groundTerm textbookRise digitsOf decimal heightText depthText stepAnswerBy stepNextBy
+unfolding oneRow flat two passing three pondGround pond pondFace through square four tabulate grid all allAt greatest sum sumAt readGround readState writeState stateLength sumOfHeights sizesFit sidesFit timesFit cardFits lengthsFit groundsFit heightsFit velocitiesFit wallsStill valuesFit firstOf checkAlso checkWith firstRefusal ifDone walled transfer eastTransfer northTransfer forward backward withinLimit newHeight after before eastFace northFace outAhead outBehind outAbove outBelow positive ownShare brought carried rise slope isBank dryBank newVelocityBy newEast newNorth next limitKept newHeightsFit newVelocitiesFit answer number stepNumberBy nextStateBy pressure pressureTerm groundTerm textbookRise digitsOf decimal heightText depthText stepAnswerBy stepNextBy
 starred = record {
   first-step = (refl, refl, refl, refl);
   second-step = (refl, refl, refl, refl);
@@ -108,6 +123,9 @@ starred = record {
   transfer-east = refl;
   transfer-west = refl;
   still-pond = (refl, refl, refl, refl);
+  pressure-doubled = refl;
+  pressure-in-the-pond = refl;
+  ground-in-the-pond = refl;
   dry-bank = (refl, refl, refl, refl);
   bank-level = (refl, refl, refl, refl);
   bank-below = (refl, refl, refl, refl);

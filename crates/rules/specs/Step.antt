@@ -201,8 +201,9 @@ surfaceL f = f .newL +ℤ f .groundL
 unfoldable pub rise : Face → ℤ
 rise f = surfaceL f -ℤ surfaceK f
 
-unfoldable pub slope : (dt d : ℕ) (rise : ℤ) → ℤ
-slope dt d rise = quotZ (pos (9806650 * dt) *ℤ rise) (pos (1000 * d))
+-- S, of a rise r
+unfoldable pub slope : (dt d : ℕ) (r : ℤ) → ℤ
+slope dt d r = quotZ (pos (9806650 * dt) *ℤ r) (pos (1000 * d))
 
 -- ---- Dry banks (document 02, [2]): one of a face's cells is dry after the step and its ground is at or above the other's new surface
 
@@ -230,15 +231,11 @@ carriedPart f = quotZ (carried f) (newSum f)
 abbrev pub Rule : Type 0
 Rule = (dt d : ℕ) → Face → ℤ
 
--- where it is 0 by rule
-abbrev pub halts : Face → Bool
-halts f = isZero (newSum f) || dryBank f
+-- by what gives a face its rise: the textbook engine (document 02, [5]) has a way of its own (Textbook.antt)
+unfoldable pub newVelocityBy : (by : Face → ℤ) → Rule
+newVelocityBy by dt d f = cond (isZero (newSum f) || dryBank f) (pos 0) (carriedPart f -ℤ slope dt d (by f))
 
--- over what gives a face its rise: the textbook engine (document 02, [5]) has a way of its own (Textbook.antt)
-unfoldable pub newVelocityBy : (rise : Face → ℤ) → Rule
-newVelocityBy rise dt d f = cond (halts f) (pos 0) (carriedPart f -ℤ slope dt d (rise f))
-
--- document 01's, with [2]'s banks
+-- the first engine's: document 01's, with [2]'s banks
 abbrev pub newVelocity : Rule
 newVelocity = newVelocityBy rise
 

@@ -3,7 +3,7 @@ ghost use mathlib.Core.Path.{_≡_};
 ghost use mathlib.Core.Bool.{cond};
 ghost use lib.Dec.{leb};
 ghost use Rattle.rules.specs.Contracts.{StepContractBy};
-ghost use Rattle.rules.specs.Textbook.{engine};
+ghost use Rattle.laws.specs.Engines.{engine};
 ghost use Rattle.laws.specs.Facts.{SoundWith};
 ghost use Rattle.step.specs.Held.{Held};
 use rules::Card;

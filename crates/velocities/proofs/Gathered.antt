@@ -7,12 +7,11 @@ use lib.IntN.{ℤ, pos, _-ℤ_}
 use Rattle.rules.specs.declared.Card.{Card}
 use Rattle.rules.specs.declared.Face.{Face}
 use Rattle.rules.specs.Site.{isZero, readGround, readState}
-use Rattle.rules.specs.Step.{newSum, dryBank, halts, carriedPart, slope}
-use Rattle.rules.specs.Textbook.{riseOf, engine}
-use Rattle.laws.specs.Tests.{neither-left}
+use Rattle.rules.specs.Step.{newSum, dryBank, carriedPart, slope}
+use Rattle.laws.specs.Engines.{riseOf, engine}
 use Rattle.laws.specs.Still.{carries-nothing}
-use Rattle.laws.specs.Velocity.{halted, moved}
-use Rattle.laws.specs.Levels.{SameLevels, same-halts, same-rise-of}
+use Rattle.laws.specs.Velocity.{without-water, on-a-bank, elsewhere}
+use Rattle.laws.specs.Levels.{SameLevels, same-sum, same-bank, same-rise-of}
 use Rattle.momentum.specs.Fits.{FaceFits}
 use Rattle.velocity.specs.Fits.{WetFace, InVelocity, InStillVelocity}
 use Rattle.velocity.proofs.Bounds.{rise-of-within}
@@ -39,29 +38,32 @@ module _ {c : Card} {g s t : List ℤ} {east : Bool} {k l : ℕ} (a : AtFace c g
       let sound = sound-of (a .flowing) in
       record { face = levels-fit; time = time sound; side = rw e (side-fits sound east); nothing = rw read (carries-nothing (all-still (readGround c g) (readState c t .height) east k l)) }
 
-  -- 0 by rule
-  pub halted-is : (textbook : Bool) (d : ℕ) → halts levels ≡ true → pos 0 ≡ engine textbook (c .dt) d whole
-  halted-is textbook d e = sym (halted (riseOf textbook) (c .dt) d whole (sym (same-halts same) ∙ e))
+  -- 0 without water, and on a dry bank
+  pub dry-is : (textbook : Bool) (d : ℕ) → isZero (newSum levels) ≡ true → pos 0 ≡ engine textbook (c .dt) d whole
+  dry-is textbook d e = sym (without-water (riseOf textbook) (c .dt) d whole (rw (← same-sum same) e))
 
-  module _ (moves : halts levels ≡ false) where
+  pub bank-is : (textbook : Bool) (d : ℕ) → dryBank levels ≡ true → pos 0 ≡ engine textbook (c .dt) d whole
+  bank-is textbook d e = sym (on-a-bank (riseOf textbook) (c .dt) d whole (sym (same-bank same) ∙ e))
+
+  module _ (wet : isZero (newSum levels) ≡ false) where
     pub wet-levels : WetFace levels
-    wet-levels = record { face = levels-fit; wet = neither-left (isZero (newSum levels)) (dryBank levels) moves }
+    wet-levels = record { face = levels-fit; wet = wet }
 
     -- with the rise that was returned, and the face that was gathered
     module _ (textbook : Bool) {r : ℤ} (risen : r ≡ riseOf textbook levels) {f : Face} (gathered : f ≡ whole) {d : ℕ} (e : d ≡ side c east) where
-      goes-on : halts f ≡ false
-      goes-on = rw gathered (sym (same-halts same) ∙ moves)
+      wet-whole : isZero (newSum f) ≡ false
+      wet-whole = rw (gathered, ← same-sum same) wet
 
       pub in-velocity : InVelocity f r (c .dt) d
       in-velocity =
           let sound = sound-of (a .flowing) in
           record {
-            wet-face = record { face = rw gathered (face-fits a); wet = neither-left (isZero (newSum f)) (dryBank f) goes-on };
+            wet-face = record { face = rw gathered (face-fits a); wet = wet-whole };
             slope = record { small = rw risen (rise-of-within textbook wet-levels); time = time sound; side = rw e (side-fits sound east) };
           }
 
-      pub moved-is : carriedPart f -ℤ slope (c .dt) d r ≡ engine textbook (c .dt) (side c east) whole
-      moved-is =
+      pub moved-is : dryBank levels ≡ false → carriedPart f -ℤ slope (c .dt) d r ≡ engine textbook (c .dt) (side c east) whole
+      moved-is none =
           ap (λ (x : ℤ). carriedPart f -ℤ slope (c .dt) d x) (risen ∙ same-rise-of same textbook ∙ ap (riseOf textbook) (sym gathered))
-          ∙ sym (moved (riseOf textbook) (c .dt) d f goes-on)
+          ∙ sym (elsewhere (riseOf textbook) (c .dt) d f wet-whole (rw gathered (sym (same-bank same) ∙ none)))
           ∙ rw (gathered, e)

@@ -1,12 +1,13 @@
-// The new velocity of an inner face, by document 01's engine or the textbook's. Its levels, four numbers, say whether it is 0 by rule, and give the rise. Only then, and in
-// no still row, the eighteen numbers around it are gathered for what is carried: so the test for the engine holds nothing up that is read after it.
+// The new velocity of an inner face, by the first engine or the textbook's. Its levels, four numbers, say whether it is 0, without water and on a dry bank, and give
+// the rise. Only then the eighteen numbers around it are gathered, for what is carried: were they read before the test for the engine, the compiler would keep
+// them all on the stack across it.
 use around::faces;
 use around::levels;
 use layout::ways;
 use rules::Card;
 ghost use mathlib.Core.Path.{_≡_};
 ghost use Rattle.rules.specs.Site.{readGround, readState};
-ghost use Rattle.rules.specs.Textbook.{engine};
+ghost use Rattle.laws.specs.Engines.{engine};
 ghost use Rattle.layout.specs.Ways as Ways;
 ghost use Rattle.around.specs.Faces.{innerFace};
 ghost use Rattle.velocities.specs.Velocities.{OnInner};
@@ -30,7 +31,10 @@ pub fn velocity(
     if still {
         return velocity::still_velocity(levels, card.dt, ways::side(card, east));
     }
-    if velocity::halts(levels) {
+    if velocity::no_water(levels) {
+        return 0;
+    }
+    if velocity::banks::dry_bank(levels) {
         return 0;
     }
     let rise = velocity::rise_of(levels, textbook);

@@ -1,5 +1,6 @@
 // The velocities of the next state, in the part of it that starts behind the heights: two passes, each left at the first velocity out of
-// range. At most two divisions for each inner face, by the textbook engine three; none on the walls. In a still row four numbers are read for a face, else eighteen.
+// range. At most two divisions for each inner face, by the textbook engine three; none on the walls. Four numbers are read for a face, and eighteen where it has
+// water and no dry bank; of the rows that are still the first engine reads no more than the four.
 use crate::inner;
 use layout::ways;
 use rules::Card;
@@ -8,7 +9,7 @@ ghost use Prim.Native.Nat.{suc, _+_, _*_};
 ghost use Rattle.rules.specs.Grid.{grid, allAt};
 ghost use Rattle.rules.specs.Site.{readGround, readState, speedFits};
 ghost use Rattle.rules.specs.Step.{newVelocitiesFit};
-ghost use Rattle.rules.specs.Textbook.{engine};
+ghost use Rattle.laws.specs.Engines.{engine};
 ghost use Rattle.laws.specs.Tested.{Filled};
 ghost use Rattle.layout.specs.Ways as Ways;
 ghost use Rattle.velocities.specs.Velocities.{OnFace, Room, newSpeeds, nextVelocities};
@@ -53,6 +54,7 @@ fn pass(
     let wide = ways::wide(card, east);
     let high = ways::high(card, east);
     for j in 0..high {
+        // the textbook engine passes over none: a test for it on every still face would cost a lake a quarter of its time
         let still = !textbook & still::both_still(card, east, marks, j);
         for i in 0..wide {
             let u = velocity(card, east, ground, state, tide, i, j, still, textbook);

@@ -7,7 +7,8 @@ use lib.Dec.{lit≤}
 use lib.IntN.{ℤ}
 use Rattle.rules.specs.declared.Face.{Face}
 use Rattle.rules.specs.Step.{newSum, rise, slope}
-use Rattle.rules.specs.Textbook.{pressure, pressureTerm, groundTerm, riseOf}
+use Rattle.rules.specs.Textbook.{pressure, pressureTerm, groundTerm}
+use Rattle.laws.specs.Engines.{riseOf}
 use Rattle.laws.specs.Textbook.{textbook-rise}
 use Rattle.laws.specs.Sizes.{Within, within-nat, within-add, within-sub, within-mul, within-quot}
 use Rattle.face.specs.Ranges.{Time, Side}

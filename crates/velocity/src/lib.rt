@@ -1,15 +1,15 @@
-// The new velocity of one face, by document 01's engine or the textbook's: what each function returns is a definition of `rules`. Two divisions, none where what it
-// would divide is 0, and neither on a dry bank; the textbook's rise takes one more.
-mod banks;
+// The arithmetic of one face's new velocity, by the first engine or the textbook's: what each function returns is said by definitions of `rules`. Two divisions, none
+// where what it would divide is 0; the textbook's rise takes one more.
+pub mod banks;
 mod textbook;
 
 use rules::Face;
 ghost use mathlib.Core.Path.{_≡_};
 ghost use lib.IntN.{_-ℤ_};
 ghost use lib.Signed.{quotZ};
-ghost use Rattle.rules.specs.Site.{speedFits};
+ghost use Rattle.rules.specs.Site.{isZero, speedFits};
 ghost use Rattle.rules.specs.Step as step;
-ghost use Rattle.rules.specs.Textbook.{riseOf};
+ghost use Rattle.laws.specs.Engines.{riseOf};
 ghost use Rattle.momentum.specs.Fits.{FaceFits};
 ghost use Rattle.velocity.specs.Fits.{InQuotient, WetFace, InVelocity, InSlope, InStillVelocity};
 
@@ -36,7 +36,7 @@ fn rise(f: Face) -> i32
     (hl + zl) - (hk + zk)
 }
 
-// The same by the engine that is asked for: all that the two do apart from each other.
+// The same by the engine that is asked for. In all else that is worked out the two are one.
 pub fn rise_of(f: Face, textbook: bool) -> i64
     requires { ⌜ WetFace f ⌝ }
     ensures { λ r. ⌜ r ≡ riseOf textbook f ⌝ }
@@ -70,18 +70,15 @@ fn new_sum(f: Face) -> i32
     k + l
 }
 
-// Whether the new velocity is 0 by rule: there is no water, and then no ground is read, or one of the cells is a dry bank.
-pub fn halts(f: Face) -> bool
+// Whether there is none: then the new velocity is 0.
+pub fn no_water(f: Face) -> bool
     requires { ⌜ FaceFits f ⌝ }
-    ensures { λ r. ⌜ r ≡ step.halts f ⌝ }
+    ensures { λ r. ⌜ r ≡ isZero (step.newSum f) ⌝ }
 {
-    if new_sum(f) == 0 {
-        return true;
-    }
-    banks::dry_bank(f)
+    new_sum(f) == 0
 }
 
-// The new velocity of an inner face elsewhere, once its rise is known.
+// The new velocity of an inner face with water and no dry bank, once its rise is known.
 pub fn new_velocity(f: Face, rise: i64, dt: u32, d: u32) -> i64
     requires { ⌜ InVelocity f rise dt d ⌝ }
     ensures { λ r. ⌜ r ≡ step.carriedPart f -ℤ step.slope dt d rise ⌝ }
@@ -89,7 +86,7 @@ pub fn new_velocity(f: Face, rise: i64, dt: u32, d: u32) -> i64
     quotient(momentum::carried(f), new_sum(f) as i64) - slope(rise, dt, d)
 }
 
-// That of a face which carries nothing, as all do between still rows; on a level surface, as of a lake, no bank is looked for. It is a function of its own:
+// By the first engine, that of a face which carries nothing, as all do between still rows; on a level surface, as of a lake, no bank is looked for. It is a function of its own:
 // of two calls of the other the compiler would make one place, and every still face would go through the products of one that moves.
 pub fn still_velocity(f: Face, dt: u32, d: u32) -> i64
     requires { ⌜ InStillVelocity f dt d ⌝ }

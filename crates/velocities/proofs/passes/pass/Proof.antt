@@ -7,7 +7,7 @@ use native.Mathlib.Omega.{arith}
 use borrow.Author.Needs.{needs}
 use borrow.Author.Tests.{not-true, not-false}
 use Rattle.rules.specs.Site.{speedFits}
-use Rattle.rules.specs.Textbook.{engine}
+use Rattle.laws.specs.Engines.{engine}
 use Rattle.laws.specs.Tests.{true-of, and-left, and-right, to-T}
 use Rattle.laws.specs.Passes.{place}
 use Rattle.laws.specs.Tested.{RowsTested, CellsTested, begin, begin-row, more, more-rows, done, left}

@@ -2,9 +2,9 @@
 use borrow.Author.Needs.{needs}
 use mir.Syntax.{w64}
 use Rattle.rules.specs.Textbook.{textbookRise}
+use Rattle.laws.specs.Numbers.{not-0-is-above}
 use Rattle.laws.specs.Exact.{Node, fits, value, divides, result, add, quot, cast}
 use Rattle.velocity.proofs.Bounds.{sum-within, pressure-within, ground-within}
-use Rattle.velocity.proofs.Quotients.{above}
 use Rattle.velocity.proofs.textbook.rise.Statement.{statement}
 use Rattle.velocity.proofs.textbook.rise.Tie as tie
 
@@ -34,7 +34,7 @@ cast-result : tie.Need-cast-result
 cast-result c = fits (sum c)
 
 div-result : tie.Need-div-result
-div-result c = divides (terms (termed c)) (sum c) (above (sum c .z) (start (termed c) .pre .wet))
+div-result c = divides (terms (termed c)) (sum c) (not-0-is-above (sum c .z) (start (termed c) .pre .wet))
 
 pressure-term-requires : tie.Need-pressure-term-requires
 pressure-term-requires c κs = search needs
