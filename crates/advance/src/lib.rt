@@ -1,4 +1,5 @@
-// One step of a sound site, with a tide to work in. The still rows are marked first, and passed over by all that follows.
+// One step of a sound site, with a tide to work in. The still rows are marked first, and passed over by all that follows but the textbook engine's
+// velocities.
 ghost use Rattle.rules.specs.Site.{readGround, readState};
 ghost use Rattle.rules.specs.Step.{newVelocitiesFit, nextStateBy};
 ghost use Rattle.laws.specs.Engines.{engine};
