@@ -98,10 +98,11 @@ uint32_t water_step(WaterCard card,
 
 /* The same step by the textbook engine, for those who read beside the paper (of Herbin, Latche, Nasseri and Therme): its pressure and its
  * ground, (7c) and (7d), are kept apart. With hK, hL the new heights and zK, zL the grounds of a face's two cells, the pressure term
- * hL*hL - hK*hK and the ground term (hK + hL)*(zL - zK) are added and divided by hK + hL, which leaves no rest. What comes out is the
- * difference of the surfaces, which water_step takes as it is.
+ * hL*hL - hK*hK and the ground term (hK + hL)*(zL - zK), both doubled so that they stay whole and without gravity, which comes in with
+ * time step and side, are added and, where there is water, divided by hK + hL. That leaves no rest, and what comes out is the difference
+ * of the surfaces, which water_step takes as it is.
  * So whatever the input, the number and every list are water_step's. That one is the default, and what water_run repeats: the textbook
- * engine divides once more for each face with water, and is slower. */
+ * engine divides once more for each face with water and no dry bank, passes over no still water, and is slower. */
 uint32_t water_step_textbook(WaterCard card,
                              const int32_t *ground, size_t ground_length,
                              const int32_t *state, size_t state_length,

@@ -173,6 +173,21 @@ static void steps(void) {
     EXPECT(step(flat, three, next) == 0 && next[0] == 4 && next[1] == 2);
 }
 
+/* Each refusal of a step, by both engines: the list stays as lent. */
+static void refused_steps(void) {
+    static const int32_t cliff[2] = {-50000000, 50000000};
+    const WaterCard no_time = {2, 1, 1000000, 1000000, 0, 0};
+    const int32_t still[9] = {2000000, 1000000}, full[9] = {50000000, 50000000}, below[9] = {-1, 0}, over[9] = {50000000, 50000000, 0, 1};
+    int32_t next[9] = {-7, -7, -7, -7, -7, -7, -7, -7, -7}, lent[9];
+    memcpy(lent, next, sizeof next);
+    EXPECT(step_by_both(no_time, flat, 2, still, 9, next) == 1 && SAME(next, lent));
+    EXPECT(step_by_both(card, flat, 1, still, 9, next) == 2 && SAME(next, lent));
+    EXPECT(step(flat, below, next) == 3);
+    EXPECT(step(flat, over, next) == 5);
+    EXPECT(step(cliff, full, next) == 7);
+    hand_back();
+}
+
 /* document 02, [2]: a dry bank does not pull, nor one that is just as high as the water; 1 um below the surface there is no bank */
 static void dry_banks(void) {
     static const int32_t high[2] = {0, 1500000}, level[2] = {0, 1000000}, low[2] = {0, 999999};
@@ -369,6 +384,7 @@ static void no_pointers(void) {
 int main(void) {
     for (fenced = 0; fenced <= 1; fenced++) {
         steps();
+        refused_steps();
         dry_banks();
         passing_through();
         at_rest();

@@ -46,11 +46,12 @@ pub fn step(card: Card, ground: &[i32], state: &[i32], next: &mut [i32]) -> Resu
     step_by(raw::water_step, card, ground, state, next)
 }
 
-/// The same step by the textbook engine, for those who read beside the paper: pressure and ground, its (7c) and (7d), are two terms of each
-/// face, which are added and divided by the sum of its two new heights. `include/water.h` has them in full.
+/// The same step by the textbook engine, for those who read beside the paper of Herbin, Latché, Nasseri and Therme: pressure and ground,
+/// its (7c) and (7d), are two terms of each face, which are added and, where there is water, divided by the sum of its two new heights.
+/// `include/water.h` has them in full.
 ///
 /// Whatever the input, it answers and leaves in `next` what [`step`] does. That one is the default: it divides once less for each face with
-/// water, and is the faster.
+/// water and no dry bank, passes over still water, and is the faster.
 ///
 /// ```
 /// use water::{calls, Card, Refusal};

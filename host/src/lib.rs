@@ -3,7 +3,7 @@
 //! A [`Site`] owns its lists and is the comfortable way in; [`calls`] has the library's calls on slices that a host keeps itself;
 //! [`raw`] is what C sees. All state is whole numbers: micrometres, micrometres a second, milliseconds. Rows run south to north,
 //! and within a row west to east. Two engines make a step, to the same numbers: [`calls::step`] is the default, which a run repeats, and
-//! [`calls::step_textbook`] is for reading beside the paper.
+//! [`calls::step_textbook`] is for reading beside the paper (of Herbin, Latché, Nasseri and Therme).
 //!
 //! # Stack
 //!

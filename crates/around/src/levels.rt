@@ -1,5 +1,5 @@
-// The levels on both sides of an inner face, four numbers gathered from ground and tide: they say whether it halts and what its rise is, and of a still face they are all
-// that its new velocity asks for.
+// The levels on both sides of an inner face, four numbers gathered from ground and tide: they say whether its new velocity is 0 and give its rise, and of a still face
+// they are all that its new velocity asks for.
 use layout::ways;
 use layout::words::height_at;
 use rules::Card;

@@ -6,8 +6,8 @@
 --     g · ½ · (hK + hL) · (zL − zK)           (17), (11)     the mean height times the ground's difference: the ground term of (7d)
 --     ½ · (hK + hL)                           (14)           the height in the face's own cell, by which (7d) is divided for its new velocity
 --
--- Pressure, both terms and the height are doubled here, so that they stay whole: the last is half of H'. The time step, g, and the side by which (11) divides
--- come in with S. All else of a step is the first engine's (Step.antt): checks, transfers, step limit, new heights, carried momentum, dry banks, numbers.
+-- Pressure, both terms and the height are doubled here, so that they stay whole; the height, doubled, is H'. The time step, g, and the side by which (11)
+-- divides come in with S. All else of a step is the first engine's (Step.antt): checks, transfers, step limit, new heights, carried momentum, dry banks, numbers.
 use lib.IntN.{ℤ, _+ℤ_, _-ℤ_, _*ℤ_}
 use lib.Signed.{quotZ}
 use Rattle.rules.specs.declared.Face.{Face}
@@ -30,7 +30,7 @@ unfoldable pub groundTerm : Face → ℤ
 groundTerm f = meanHeight f *ℤ (f .groundL -ℤ f .groundK)
 
 -- What S takes in the place of the first engine's rise: both terms, divided by H'. It is asked for only where H' is above 0, since without water a new velocity is 0.
--- (That the division leaves no rest, and that this is the rise, is promised: promises, BothEngines.antt.)
+-- (The division leaves no rest, and what comes out is the rise: `leaves-no-rest`, promises, BothEngines.antt; `textbook-rise`, laws, Textbook.antt.)
 unfoldable pub textbookRise : Face → ℤ
 textbookRise f = quotZ (pressureTerm f +ℤ groundTerm f) (newSum f)
 
