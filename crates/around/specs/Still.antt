@@ -1,4 +1,5 @@
--- A still face: its new velocity asks for the new heights and the ground of its cells, its levels, and for nothing else. It has the levels of the inner face in its place.
+-- A still face: its new velocity asks for its levels, the new heights and the ground of its cells, and for nothing else. It has the levels of the inner face in
+-- its place.
 use Prim.Native.Nat.{ℕ, _<_}
 use mathlib.Core.Path.{_≡_}
 use mathlib.Core.Bool.{Bool, not}

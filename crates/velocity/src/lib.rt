@@ -86,8 +86,8 @@ pub fn new_velocity(f: Face, rise: i64, dt: u32, d: u32) -> i64
     quotient(momentum::carried(f), new_sum(f) as i64) - slope(rise, dt, d)
 }
 
-// By the first engine, that of a face which carries nothing, as all do between still rows; on a level surface, as of a lake, no bank is looked for. It is a function of its own:
-// of two calls of the other the compiler would make one place, and every still face would go through the products of one that moves.
+// By the first engine, that of a face which carries nothing, as all do between still rows; on a level surface, as of a lake, no bank is looked for. It is a
+// function of its own: of one for both kinds of rows the compiler would make one place, and every still face would go through the products of one that moves.
 pub fn still_velocity(f: Face, dt: u32, d: u32) -> i64
     requires { ⌜ InStillVelocity f dt d ⌝ }
     ensures { λ r. ⌜ r ≡ step.newVelocity dt d f ⌝ }

@@ -1,4 +1,5 @@
-// The rise as the textbook engine works it out: the pressure term and the ground term of (7d) apart, both doubled so that they stay whole, and their sum divided by H'.
+// The rise as the textbook engine works it out: the pressure term and the ground term of (7d) apart, both doubled so that they stay whole, and their sum
+// divided by H'.
 use rules::Face;
 ghost use mathlib.Core.Path.{_≡_};
 ghost use Rattle.rules.specs.Textbook as book;
