@@ -16,16 +16,24 @@ fn pressure_term(f: Face) -> i64
     l * l - k * k
 }
 
-// The mean height of (17) times the ground's difference.
+// Twice the mean height, (17).
+fn mean_height(f: Face) -> i64
+    requires { ⌜ FaceFits f ⌝ }
+    ensures { λ r. ⌜ r ≡ book.meanHeight f ⌝ }
+{
+    let hk = f.newK as i64;
+    let hl = f.newL as i64;
+    hk + hl
+}
+
+// The mean height times the ground's difference.
 fn ground_term(f: Face) -> i64
     requires { ⌜ FaceFits f ⌝ }
     ensures { λ r. ⌜ r ≡ book.groundTerm f ⌝ }
 {
-    let hk = f.newK as i64;
-    let hl = f.newL as i64;
     let zk = f.groundK as i64;
     let zl = f.groundL as i64;
-    (hk + hl) * (zl - zk)
+    mean_height(f) * (zl - zk)
 }
 
 // Both terms over H'. The division leaves no rest, but it is made.

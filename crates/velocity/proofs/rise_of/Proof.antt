@@ -1,4 +1,4 @@
--- `rise_of`: each engine's own, and document 01's cast to 64 bits.
+-- `rise_of`: each engine's own, and the first one's cast to 64 bits.
 use mathlib.Core.Path.{_∙_}
 use borrow.Author.Needs.{needs}
 use mir.Syntax.{w64}

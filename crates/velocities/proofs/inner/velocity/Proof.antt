@@ -8,6 +8,7 @@ use mir.Val.{toZ, ofZ}
 use mir.Facts.{toZ-ofZ}
 use Rattle.rules.specs.Site.{isZero}
 use Rattle.rules.specs.Step.{newSum, dryBank}
+use Rattle.laws.specs.Tests.{true-of, and-right, to-T}
 use Rattle.laws.specs.Engines.{riseOf}
 use Rattle.around.proofs.Ranges.{still-place, old-place}
 use Rattle.around.proofs.Still.{still-velocity}
@@ -26,7 +27,7 @@ wet : (c : tie.Else2) → isZero (newSum (levels c .still-face .result)) ≡ fal
 wet c = sym (c .before .no-water .ensures) ∙ c .if2 .left
 
 no-bank : (c : tie.Else3) → dryBank (levels (tested c) .still-face .result) ≡ false
-no-bank c = sym (c .before .dry-bank .ensures) ∙ c .if3 .left
+no-bank c = sym (c .before .dry-bank .ensures) ∙ search needs
 
 -- the rise that they gave
 abbrev risen : tie.After-rise-of → tie.After-still-face
@@ -53,7 +54,7 @@ returns-2 c =
 returns-3 : tie.Need-returns-3
 returns-3 c =
     let f = levels (c .before .before) in
-    bank-is (f .before .pre .at-face) (f .still-face .ensures) (f .before .args .textbook) _ (sym (c .before .dry-bank .ensures) ∙ c .if3 .taken)
+    bank-is (f .before .pre .at-face) (f .still-face .ensures) (f .before .args .textbook) _ (sym (c .before .dry-bank .ensures) ∙ search (true-of, and-right, to-T, needs))
 
 returns-4 : tie.Need-returns-4
 returns-4 c =
