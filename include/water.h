@@ -102,7 +102,8 @@ uint32_t water_step(WaterCard card,
  * time step and side, are added and, where there is water, divided by hK + hL. That leaves no rest, and what comes out is the difference
  * of the surfaces, which water_step takes as it is.
  * So whatever the input, the number and every list are water_step's. That one is the default, and what water_run repeats: the textbook
- * engine divides once more for each face with water and no dry bank, passes over no still water, and is slower. */
+ * engine divides once more for each face with water and no dry bank, passes over no still water in its velocities, and is slower where
+ * there is much water. */
 uint32_t water_step_textbook(WaterCard card,
                              const int32_t *ground, size_t ground_length,
                              const int32_t *state, size_t state_length,

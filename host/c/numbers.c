@@ -173,7 +173,7 @@ static void steps(void) {
     EXPECT(step(flat, three, next) == 0 && next[0] == 4 && next[1] == 2);
 }
 
-/* Each refusal of a step, by both engines: the list stays as lent. */
+/* Each refusal of a step but 4, which steps() has, by both engines: the list stays as lent. */
 static void refused_steps(void) {
     static const int32_t cliff[2] = {-50000000, 50000000};
     const WaterCard no_time = {2, 1, 1000000, 1000000, 0, 0};

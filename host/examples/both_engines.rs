@@ -30,7 +30,7 @@ impl Terms {
     }
 }
 
-/// The eastward face with water on both sides whose pressure term is greatest, if there is one.
+/// The eastward face with water on both sides whose pressure term is greatest in size, if there is one.
 fn greatest(site: &Site) -> Option<Terms> {
     let wet = |cell: usize| site.heights()[cell] > 0;
     let columns = site.card().columns as usize;

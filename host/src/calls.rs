@@ -51,7 +51,7 @@ pub fn step(card: Card, ground: &[i32], state: &[i32], next: &mut [i32]) -> Resu
 /// `include/water.h` has them in full.
 ///
 /// Whatever the input, it answers and leaves in `next` what [`step`] does. That one is the default: it divides once less for each face with
-/// water and no dry bank, passes over still water, and is the faster.
+/// water and no dry bank, passes over still water in its velocities too, and is the faster where there is much water.
 ///
 /// ```
 /// use water::{calls, Card, Refusal};

@@ -94,7 +94,7 @@ fn advance_marked(
     flow(card, ground, state, marks, tide, next, textbook)
 }
 
-// The step's number, by document 01's engine or the textbook's. Where it is 0, `next` is the next state; otherwise nothing is promised of its words.
+// The step's number, by the first engine or the textbook's. Where it is 0, `next` is the next state; otherwise nothing is promised of its words.
 pub fn advance(
     card: Card,
     ground: &[i32],

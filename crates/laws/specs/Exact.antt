@@ -132,7 +132,7 @@ no-bits {w} fit e = sym (toZ-ofZ fit) ∙ ap (toZ w) e ∙ zero-bits w
 pub is-zero : {w : Width} (t : Node w) → ofZ w (t .raw) ≡ 0 → t .z ≡ pos 0
 is-zero t e = sym (t .is) ∙ no-bits (fits t) e
 
-pub not-zero : {w : Width} (t : Node w) → (ofZ w (t .raw) ≡ 0 → ⊥) → natAbs (t .z) ≡ 0 → ⊥
+not-zero : {w : Width} (t : Node w) → (ofZ w (t .raw) ≡ 0 → ⊥) → natAbs (t .z) ≡ 0 → ⊥
 not-zero {w} t f e = f (ap (ofZ w) (t .is ∙ no-size (t .z) e))
 
 -- what the test says of z, taken and left

@@ -7,7 +7,8 @@
 --     ½ · (hK + hL)                           (14)           the height in the face's own cell, by which (7d) is divided for its new velocity
 --
 -- Pressure, both terms and the height are doubled here, so that they stay whole; the height, doubled, is H'. The time step, g, and the side by which (11)
--- divides come in with S. All else of a step is the first engine's (Step.antt): checks, transfers, step limit, new heights, carried momentum, dry banks, numbers.
+-- divides come in with S. All else of a step is the first engine's (Site.antt, Step.antt): checks, transfers, step limit, new heights, carried momentum,
+-- dry banks, numbers.
 use lib.IntN.{ℤ, _+ℤ_, _-ℤ_, _*ℤ_}
 use lib.Signed.{quotZ}
 use Rattle.rules.specs.declared.Face.{Face}

@@ -73,7 +73,7 @@ fn step_within(
     large_step(card, ground, state, next, textbook)
 }
 
-// One step, by document 01's engine or the textbook's.
+// One step, by the first engine or the textbook's.
 pub fn step(card: Card, ground: &[i32], state: &[i32], next: &mut [i32], textbook: bool) -> u32
     ensures { λ r. ⌜ StepContractBy (engine textbook) card (now (ground .entry)) (now (state .entry)) (now (next .entry)) r (now (next .exit)) ⌝ }
 {

@@ -1,5 +1,5 @@
 // The new velocity of an inner face, by the first engine or the textbook's. Its levels, four numbers, say whether it is 0, without water and on a dry bank, and give
-// the rise. Only then the eighteen numbers around it are gathered, for what is carried: were they read before the test for the engine, the compiler would keep
+// the rise. Only then are the eighteen numbers around it gathered, for what is carried: were they read before the test for the engine, the compiler would keep
 // them all on the stack across it.
 use around::faces;
 use around::levels;

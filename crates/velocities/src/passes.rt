@@ -54,7 +54,7 @@ fn pass(
     let wide = ways::wide(card, east);
     let high = ways::high(card, east);
     for j in 0..high {
-        // The textbook engine passes over none: a test for it on every still face would cost the first engine a quarter more on a lake.
+        // The textbook engine passes over none: when it was tried, with a test for it on every still face, a lake took the first engine a quarter longer.
         let still = !textbook & still::both_still(card, east, marks, j);
         for i in 0..wide {
             let u = velocity(card, east, ground, state, tide, i, j, still, textbook);

@@ -1,6 +1,6 @@
 //! The textbook engine's two terms, as the model has them, beside the velocities that the library gives: on faces that can be worked out by
-//! hand, and where the terms are as great as the ranges allow, the deepest water over the steepest ground, still and moving. That both engines give the same is held wherever a step is made
-//! (library.rs).
+//! hand, and where the terms are as great as the ranges allow, the deepest water over the steepest ground, still and moving. That both
+//! engines give the same is held wherever a step is made (library.rs).
 
 use super::{pair, stepped};
 use crate::given::Given;
