@@ -1,6 +1,6 @@
 -- Document 01, "Calls and their numbers": of every public call, what it returns and what each lent list holds at exit, for every input.
--- `checkAlso` and its instances `check` and `checkWith` give the lowest number of the first three checks that applies; `firstRefusal` puts a later number behind
--- it; `ifDone` says what is left where the number is 0, and where not (Site.antt).
+-- `checkAlso` and its instances `check` (Site.antt) and `checkPumpedWith` (Pumps.antt) give the lowest number of the first three checks that applies; `firstRefusal`
+-- puts a later number behind it; `ifDone` says what is left where the number is 0, and where not (Site.antt).
 use Prim.Native.Nat.{ℕ}
 use mathlib.Core.Bool.{true, cond}
 use mathlib.Core.List.{List, [], _++_}
@@ -13,49 +13,49 @@ use Rattle.rules.specs.declared.Window.{Window}
 use Rattle.rules.specs.declared.Found.{Found}
 use Rattle.rules.specs.declared.Heard.{Heard}
 use Rattle.rules.specs.declared.Wrote.{Wrote}
-use Rattle.rules.specs.Site.{checkAlso, check, checkWith, firstRefusal, ifDone}
-use Rattle.rules.specs.Step.{Rule, newVelocity, stepNumberBy, nextStateBy}
+use Rattle.rules.specs.Site.{checkAlso, check, firstRefusal, ifDone}
+use Rattle.rules.specs.Step.{Rule, newVelocity}
 use Rattle.rules.specs.Textbook.{textbookVelocity}
-use Rattle.rules.specs.Run.{Outcome, runAfter}
+use Rattle.rules.specs.Pumps.{checkPumpedWith, pumpedStepBy, PumpedOutcome, pumpedRunAfter}
 use Rattle.rules.specs.Search.{registerFits, askedFits, listOf}
 use Rattle.rules.specs.Sheet.{sheetSize, sheetOf, cardIn, groundIn, stateIn, readNumber, noCard}
 use Rattle.rules.specs.Text.{depthText, fitted}
 
--- ---- Step: reads ground and state, fills a next state. Refused: next state as lent. Over the rule for new velocities
+-- ---- Step: reads ground, state and pumps, fills a next state. Refused: next state as lent. Over the rule for new velocities
 
-unfoldable pub stepAnswerBy : Rule → Card → (ground state next : List ℤ) → ℕ
-stepAnswerBy rule c g s next = firstRefusal (checkWith c g s (length next)) (stepNumberBy rule c g s)
+unfoldable pub stepAnswerBy : Rule → Card → (ground state pumps next : List ℤ) → ℕ
+stepAnswerBy rule c g s ps next = firstRefusal (checkPumpedWith c g s ps (length next)) (pumpedStepBy rule c g ps .number s)
 
-unfoldable pub stepNextBy : Rule → Card → (ground state next : List ℤ) → List ℤ
-stepNextBy rule c g s next = ifDone (stepAnswerBy rule c g s next) (nextStateBy rule c g s) next
+unfoldable pub stepNextBy : Rule → Card → (ground state pumps next : List ℤ) → List ℤ
+stepNextBy rule c g s ps next = ifDone (stepAnswerBy rule c g s ps next) (pumpedStepBy rule c g ps .next s) next
 
 -- by the first engine, document 01's
-abbrev pub stepAnswer : Card → (ground state next : List ℤ) → ℕ
+abbrev pub stepAnswer : Card → (ground state pumps next : List ℤ) → ℕ
 stepAnswer = stepAnswerBy newVelocity
 
-abbrev pub stepNext : Card → (ground state next : List ℤ) → List ℤ
+abbrev pub stepNext : Card → (ground state pumps next : List ℤ) → List ℤ
 stepNext = stepNextBy newVelocity
 
 -- by the textbook engine (document 02, [5])
-abbrev pub textbookAnswer : Card → (ground state next : List ℤ) → ℕ
+abbrev pub textbookAnswer : Card → (ground state pumps next : List ℤ) → ℕ
 textbookAnswer = stepAnswerBy textbookVelocity
 
-abbrev pub textbookNext : Card → (ground state next : List ℤ) → List ℤ
+abbrev pub textbookNext : Card → (ground state pumps next : List ℤ) → List ℤ
 textbookNext = stepNextBy textbookVelocity
 
--- ---- Run: a state and a scratch list of equal length. Reasons 1 to 3: both lists as lent. Otherwise scratch is all zero.
+-- ---- Run: a state and a scratch list of equal length, and pumps. Reasons 1 to 3: both lists as lent. Otherwise scratch is all zero.
 
-unfoldable pub runOutcome : Card → (ground state scratch : List ℤ) → Outcome
-runOutcome c g s scratch = runAfter (checkWith c g s (length scratch)) c g s
+unfoldable pub runOutcome : Card → (ground state pumps scratch : List ℤ) → PumpedOutcome
+runOutcome c g s ps scratch = pumpedRunAfter (checkPumpedWith c g s ps (length scratch)) c g s ps
 
-unfoldable pub runTally : Card → (ground state scratch : List ℤ) → Tally
-runTally c g s scratch = runOutcome c g s scratch .tally
+unfoldable pub runTally : Card → (ground state pumps scratch : List ℤ) → Tally
+runTally c g s ps scratch = runOutcome c g s ps scratch .tally
 
-unfoldable pub runState : Card → (ground state scratch : List ℤ) → List ℤ
-runState c g s scratch = runOutcome c g s scratch .state
+unfoldable pub runState : Card → (ground state pumps scratch : List ℤ) → List ℤ
+runState c g s ps scratch = runOutcome c g s ps scratch .state
 
-unfoldable pub runScratch : Card → (ground state scratch : List ℤ) → List ℤ
-runScratch c g s scratch = ifDone (checkWith c g s (length scratch)) (replicate (length scratch) (pos 0)) scratch
+unfoldable pub runScratch : Card → (ground state pumps scratch : List ℤ) → List ℤ
+runScratch c g s ps scratch = ifDone (checkPumpedWith c g s ps (length scratch)) (replicate (length scratch) (pos 0)) scratch
 
 -- ---- Search: done: the count, the first count places filled, the rest as lent. 8: the count needed, list as lent. 1 to 3: count 0, list as lent.
 

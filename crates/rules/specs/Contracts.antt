@@ -19,22 +19,22 @@ use Rattle.rules.specs.Calls.{stepAnswerBy, stepNextBy, runTally, runSta
 
 -- ---- step, over the rule for new velocities; by the first engine, and by the textbook's
 
-pub record StepContractBy (rule : Rule) (c : Card) (ground state next : List ℤ) (number : ℕ) (nextAtExit : List ℤ) : Type 0 where
-  pub answer : number ≡ stepAnswerBy rule c ground state next
-  pub next-exit : nextAtExit ≡ stepNextBy rule c ground state next
+pub record StepContractBy (rule : Rule) (c : Card) (ground state pumps next : List ℤ) (number : ℕ) (nextAtExit : List ℤ) : Type 0 where
+  pub answer : number ≡ stepAnswerBy rule c ground state pumps next
+  pub next-exit : nextAtExit ≡ stepNextBy rule c ground state pumps next
 
-abbrev pub StepContract : (c : Card) (ground state next : List ℤ) (number : ℕ) (nextAtExit : List ℤ) → Type 0
+abbrev pub StepContract : (c : Card) (ground state pumps next : List ℤ) (number : ℕ) (nextAtExit : List ℤ) → Type 0
 StepContract = StepContractBy newVelocity
 
-abbrev pub TextbookContract : (c : Card) (ground state next : List ℤ) (number : ℕ) (nextAtExit : List ℤ) → Type 0
+abbrev pub TextbookContract : (c : Card) (ground state pumps next : List ℤ) (number : ℕ) (nextAtExit : List ℤ) → Type 0
 TextbookContract = StepContractBy textbookVelocity
 
 -- ---- run
 
-pub record RunContract (c : Card) (ground state scratch : List ℤ) (tally : Tally) (stateAtExit scratchAtExit : List ℤ) : Type 0 where
-  pub answer : tally ≡ runTally c ground state scratch
-  pub state-exit : stateAtExit ≡ runState c ground state scratch
-  pub scratch-exit : scratchAtExit ≡ runScratch c ground state scratch
+pub record RunContract (c : Card) (ground state pumps scratch : List ℤ) (tally : Tally) (stateAtExit scratchAtExit : List ℤ) : Type 0 where
+  pub answer : tally ≡ runTally c ground state pumps scratch
+  pub state-exit : stateAtExit ≡ runState c ground state pumps scratch
+  pub scratch-exit : scratchAtExit ≡ runScratch c ground state pumps scratch
 
 -- ---- search, over two lists of numbers and over a row of chambers
 

@@ -3,6 +3,7 @@ pub mod Site
 pub mod Step
 pub mod Textbook
 pub mod Run
+pub mod Pumps
 pub mod Turn
 pub mod Search
 pub mod Sheet

@@ -6,9 +6,8 @@ use lib.ListN.{length}
 use lib.IntN.{ℤ, natAbs}
 use lib.Dec.{leb, eqb}
 use Rattle.rules.specs.declared.Card.{Card}
-use Rattle.rules.specs.declared.Tally.{Tally}
 use Rattle.rules.specs.Site.{cells, stateLength, readState, firstRefusal, ifDone}
-use Rattle.rules.specs.Run.{Outcome, run}
+use Rattle.rules.specs.Run.{Progress, Outcome, run}
 use Rattle.rules.specs.Sheet.{cardIn, groundIn, stateIn, readNumber}
 use Rattle.rules.specs.Text.{decimal, depthText}
 
@@ -40,7 +39,7 @@ unfoldable pub refusedLine : ℕ → List ℕ
 refusedLine k = labelled refusedWord k ++ lineFeed
 
 -- steps done, reason and top in µm
-unfoldable pub tallyLine : Tally → List ℕ
+unfoldable pub tallyLine : Progress → List ℕ
 tallyLine t = labelled stepsWord (t .steps) ++ (labelled reasonWord (t .reason) ++ (labelled topWord (natAbs (t .top)) ++ lineFeed))
 
 -- the depth text of a cell, with a comma and a space before it unless it is the first of its row
@@ -57,11 +56,11 @@ unfoldable pub rowLines : Card → (state : List ℤ) → ℕ → List ℕ
 rowLines c s zero = []
 rowLines c s (suc j) = rowLines c s j ++ (rowTexts c s j (c .columns) ++ lineFeed)
 
--- a run's tally, and the rows of the state that it ends in
+-- how far a run came, and the rows of the state that it ends in
 unfoldable pub playedText : Card → Outcome → List ℕ
-playedText c o = tallyLine (o .tally) ++ rowLines c (o .state) (c .rows)
+playedText c o = tallyLine (o .progress) ++ rowLines c (o .state) (c .rows)
 
--- the run of a sheet
+-- the run of a sheet, which has no pumps
 unfoldable pub played : (sheet : List ℕ) → List ℕ
 played l = playedText (cardIn l) (run (cardIn l) (groundIn l) (stateIn l))
 

@@ -109,17 +109,12 @@ firstOf true true false = 3
 firstOf true true true = 0
 
 -- the first three checks of a card, a ground and a state; `one`, `two` and `three` are what a call asks besides for 1, for 2 and for 3, `true` for nothing.
--- (No call of document 01 asks anything besides for 1.)
 unfoldable pub checkAlso : (one two three : Bool) → Card → (ground state : List ℤ) → ℕ
 checkAlso one two three c g s = firstOf (one && cardFits c) (two && lengthsFit c g s) (three && valuesFit c (readGround c g) (readState c s))
 
 -- the first three checks alone
 unfoldable pub check : Card → (ground state : List ℤ) → ℕ
 check c g s = checkAlso true true true c g s
-
--- and one more list, of so many words, that is to be as long as the state: the next state, or a run's scratch list
-unfoldable pub checkWith : Card → (ground state : List ℤ) (words : ℕ) → ℕ
-checkWith c g s words = checkAlso true (eqb words (stateLength c)) true c g s
 
 -- ---- Numbers one after the other, and what a call leaves
 

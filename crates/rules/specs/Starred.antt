@@ -1,4 +1,4 @@
--- Document 01, "Numbers to check by": the starred cases, in a single table under a single claim, proved by computation; and cases of document 02's [9], [8], [2] and [5].
+-- Document 01, "Numbers to check by": the starred cases, in a single table under a single claim, proved by computation; and cases of document 02's [9], [8], [2], [5] and [10].
 -- Each row of a step's call is made by both engines ([5]).
 use Prim.Native.Nat.{ℕ}
 use mathlib.Core.Path.{_≡_, refl}
@@ -8,15 +8,21 @@ use lib.IntN.{ℤ, pos, negℤ}
 use Rattle.rules.specs.declared.Card.{Card}
 use Rattle.rules.specs.declared.Face.{Face}
 use Rattle.rules.specs.Grid.{tabulate, grid, all, allAt, greatest, sum, sumAt}
-use Rattle.rules.specs.Site.{readGround, readState, writeState, stateLength, sumOfHeights, sizesFit, sidesFit, timesFit, cardFits, lengthsFit, groundsFit, heightsFit, velocitiesFit, wallsStill, valuesFit, firstOf, checkAlso, checkWith, firstRefusal, ifDone}
+use Rattle.rules.specs.Site.{readGround, readState, writeState, stateLength, sumOfHeights, sizesFit, sidesFit, timesFit, cardFits, lengthsFit, groundsFit, heightsFit, velocitiesFit, wallsStill, valuesFit, firstOf, checkAlso, firstRefusal, ifDone}
 use Rattle.rules.specs.Step.{walled, transfer, eastTransfer, northTransfer, forward, backward, withinLimit, newHeight, after, before, eastFace, northFace, outAhead, outBehind, outAbove, outBelow, positive, ownShare, brought, carried, rise, slope, isBank, dryBank, newVelocityBy, newEast, newNorth, next, limitKept, newHeightsFit, newVelocitiesFit, answer, number, stepNumberBy, nextStateBy, nextState}
 use Rattle.rules.specs.Textbook.{pressure, pressureTerm, groundTerm, textbookRise}
+use Rattle.rules.specs.Run.{peak, started, accepted, stoppedFor, runOn, runFrom, history, runAfter}
+use Rattle.rules.specs.Pumps.{pumpAt, fewPumps, wholePumps, pumpFits, pumpsFit, checkPumped, checkPumpedWith, adds, takes, heightAfter, afterPump, afterPumps, addsUpTo, takesUpTo, pumped, addedBy, takenBy, turnFits, inletsFit, pumpedNumber, addedOver, takenOver, reported, pumpedRunAfter, pumpedRun}
 use Rattle.rules.specs.Text.{digitsOf, decimal, heightText, depthText}
 use Rattle.rules.specs.Calls.{stepAnswerBy, stepNextBy, stepAnswer, stepNext, textbookAnswer, textbookNext}
 
 -- sides 1,000,000 and dt 100; one row
 unfoldable pub oneRow : (columns : ℕ) → Card
 oneRow columns = record { columns = columns; rows = 1; dx = 1000000; dy = 1000000; dt = 100; steps = 1 }
+
+-- two columns, and so many steps wanted
+unfoldable pub longRow : (steps : ℕ) → Card
+longRow n = record { columns = 2; rows = 1; dx = 1000000; dy = 1000000; dt = 1; steps = n }
 
 -- flat ground 0 of so many cells
 unfoldable pub flat : ℕ → List ℤ
@@ -55,18 +61,25 @@ unfoldable pub four : (southwest southeast northwest northeast north : ℤ) → 
 four a b c d v = a ∷ b ∷ c ∷ d ∷ (flat 6 ++ (pos 0 ∷ pos 0 ∷ v ∷ flat 3))
 
 -- a row of the table, where the list that is lent for the next state holds the state itself: by both engines the step has this number, and leaves this there
-abbrev pub Leaves : (columns : ℕ) (ground state : List ℤ) (number : ℕ) (then : List ℤ) → Type 0
-Leaves columns g s k then =
+abbrev pub Leaves : (columns : ℕ) (ground state pumps : List ℤ) (number : ℕ) (then : List ℤ) → Type 0
+Leaves columns g s ps k then =
     let c = oneRow columns in
-    (stepAnswer c g s s ≡ k) × (stepNext c g s s ≡ then) × (textbookAnswer c g s s ≡ k) × (textbookNext c g s s ≡ then)
+    (stepAnswer c g s ps s ≡ k) × (stepNext c g s ps s ≡ then) × (textbookAnswer c g s ps s ≡ k) × (textbookNext c g s ps s ≡ then)
 
--- the step is accepted, and leaves this state there
+-- the step without pumps is accepted, and leaves this state there
 abbrev pub Steps : (columns : ℕ) (ground state then : List ℤ) → Type 0
-Steps columns g s then = Leaves columns g s 0 then
+Steps columns g s then = Leaves columns g s [] 0 then
 
--- the step is refused with this number, and leaves the list as it was lent
+-- it is refused with this number, and leaves the list as it was lent
 abbrev pub Refuses : (columns : ℕ) (ground state : List ℤ) (number : ℕ) → Type 0
-Refuses columns g s k = Leaves columns g s k s
+Refuses columns g s k = Leaves columns g s [] k s
+
+-- the same of a 2×1 site on flat ground with pumps
+abbrev pub PumpedSteps : (state pumps then : List ℤ) → Type 0
+PumpedSteps s ps then = Leaves 2 (flat 2) s ps 0 then
+
+abbrev pub PumpedRefuses : (state pumps : List ℤ) (number : ℕ) → Type 0
+PumpedRefuses s ps k = Leaves 2 (flat 2) s ps k s
 
 pub record Starred : Type 0 where
   -- two heights, still: heights stay, the middle velocity is 980,665; and the second step
@@ -103,6 +116,25 @@ pub record Starred : Type 0 where
   -- [2], so does the new surface: it comes up to the bank in the east, which stops the water that runs there; one 1 µm lower does not
   pub bank-stops : Steps 3 (pos 0 ∷ pos 0 ∷ pos 2000000 ∷ []) (passing (pos 2000000) (pos 1000000) (pos 0) (pos 5000000) (pos 0)) (passing (pos 1000000) (pos 2000000) (pos 0) (pos 2352668) (pos 0))
   pub bank-overrun : Steps 3 (pos 0 ∷ pos 0 ∷ pos 1999999 ∷ []) (passing (pos 2000000) (pos 1000000) (pos 0) (pos 5000000) (pos 0)) (passing (pos 1000000) (pos 2000000) (pos 0) (pos 2352668) (pos 2500000))
+  -- [10], a pump takes no more than is there, and the step is made from what it leaves
+  pub pumped-dry : PumpedSteps (two (pos 300000) (pos 1000000) (pos 0)) (pos 0 ∷ negℤ (pos 1000000) ∷ []) (two (pos 0) (pos 1000000) (negℤ (pos 980665)))
+  -- [10], two pumps on one cell, in both orders
+  pub inlet-first : PumpedSteps (two (pos 300000) (pos 500000) (pos 0)) (pos 0 ∷ pos 500000 ∷ pos 0 ∷ negℤ (pos 1000000) ∷ []) (two (pos 0) (pos 500000) (negℤ (pos 490332)))
+  pub inlet-last : PumpedSteps (two (pos 300000) (pos 500000) (pos 0)) (pos 0 ∷ negℤ (pos 1000000) ∷ pos 0 ∷ pos 500000 ∷ []) (two (pos 500000) (pos 500000) (pos 0))
+  -- [10], an inlet to 50,000,000, and one past it, though a later pump would take it back; a broken step limit comes before that
+  pub to-the-top : PumpedSteps (two (pos 49000000) (pos 50000000) (pos 0)) (pos 0 ∷ pos 1000000 ∷ []) (two (pos 50000000) (pos 50000000) (pos 0))
+  pub past-the-top : PumpedRefuses (two (pos 49000001) (pos 50000000) (pos 0)) (pos 0 ∷ pos 1000000 ∷ pos 0 ∷ negℤ (pos 1000000) ∷ []) 5
+  pub limit-before-the-top : PumpedRefuses (two (pos 49000001) (pos 50000000) (pos 10000001)) (pos 0 ∷ pos 1000000 ∷ []) 4
+  -- [10], 64 pumps pass the checks, and 65 do not; a word left over, behind 64 pumps too; a cell and an amount that are out of range, on both sides
+  pub sixty-four : checkPumpedWith (oneRow 2) (flat 2) (two (pos 7) (pos 7) (pos 0)) (flat 128) 9 ≡ 0
+  pub sixty-five : PumpedRefuses (two (pos 7) (pos 7) (pos 0)) (flat 130) 1
+  pub left-over : PumpedRefuses (two (pos 7) (pos 7) (pos 0)) (flat 129) 2
+  pub no-such-cell : PumpedRefuses (two (pos 7) (pos 7) (pos 0)) (pos 2 ∷ pos 0 ∷ []) 3
+  pub no-such-cell-below : PumpedRefuses (two (pos 7) (pos 7) (pos 0)) (negℤ (pos 1) ∷ pos 0 ∷ []) 3
+  pub amount-too-great : PumpedRefuses (two (pos 7) (pos 7) (pos 0)) (pos 1 ∷ pos 1000001 ∷ []) 3
+  pub amount-too-small : PumpedRefuses (two (pos 7) (pos 7) (pos 0)) (pos 1 ∷ negℤ (pos 1000001) ∷ []) 3
+  -- [10], a run: the first step finds 300 to take and the second nothing; the third is refused by its inlet, and what its pump would take does not count
+  pub totals : pumpedRun (longRow 9) (flat 2) (two (pos 300) (pos 48000100) (pos 0)) (pos 0 ∷ negℤ (pos 1000) ∷ pos 1 ∷ pos 900000 ∷ []) ≡ record { tally = record { steps = 2; reason = 5; top = pos 49776219; added = 1800000; taken = 300 }; state = two (pos 23881) (pos 49776219) (negℤ (pos 967219)) }
   -- "dry", "<1 cm", "1 cm", "2 cm"
   pub text-0 : depthText (pos 0) ≡ 100 ∷ 114 ∷ 121 ∷ []
   pub text-9999 : depthText (pos 9999) ≡ 60 ∷ 49 ∷ 32 ∷ 99 ∷ 109 ∷ []
@@ -110,7 +142,7 @@ pub record Starred : Type 0 where
   pub text-15000 : depthText (pos 15000) ≡ 50 ∷ 32 ∷ 99 ∷ 109 ∷ []
 
 pub starred : Starred
-unfolding oneRow flat two passing three pondGround pond pondFace through square four tabulate grid all allAt greatest sum sumAt readGround readState writeState stateLength sumOfHeights sizesFit sidesFit timesFit cardFits lengthsFit groundsFit heightsFit velocitiesFit wallsStill valuesFit firstOf checkAlso checkWith firstRefusal ifDone walled transfer eastTransfer northTransfer forward backward withinLimit newHeight after before eastFace northFace outAhead outBehind outAbove outBelow positive ownShare brought carried rise slope isBank dryBank newVelocityBy newEast newNorth next limitKept newHeightsFit newVelocitiesFit answer number stepNumberBy nextStateBy pressure pressureTerm groundTerm textbookRise digitsOf decimal heightText depthText stepAnswerBy stepNextBy
+unfolding oneRow flat two passing three pondGround pond pondFace through square four tabulate grid all allAt greatest sum sumAt readGround readState writeState stateLength sumOfHeights sizesFit sidesFit timesFit cardFits lengthsFit groundsFit heightsFit velocitiesFit wallsStill valuesFit firstOf checkAlso firstRefusal ifDone walled transfer eastTransfer northTransfer forward backward withinLimit newHeight after before eastFace northFace outAhead outBehind outAbove outBelow positive ownShare brought carried rise slope isBank dryBank newVelocityBy newEast newNorth next limitKept newHeightsFit newVelocitiesFit answer number stepNumberBy nextStateBy pressure pressureTerm groundTerm textbookRise digitsOf decimal heightText depthText stepAnswerBy stepNextBy longRow peak started accepted stoppedFor runOn runFrom history runAfter pumpAt fewPumps wholePumps pumpFits pumpsFit checkPumped checkPumpedWith adds takes heightAfter afterPump afterPumps addsUpTo takesUpTo pumped addedBy takenBy turnFits inletsFit pumpedNumber addedOver takenOver reported pumpedRunAfter pumpedRun
 starred = record {
   first-step = (refl, refl, refl, refl);
   second-step = (refl, refl, refl, refl);
@@ -133,6 +165,20 @@ starred = record {
   bank-emptied = (refl, refl, refl, refl);
   bank-stops = (refl, refl, refl, refl);
   bank-overrun = (refl, refl, refl, refl);
+  pumped-dry = (refl, refl, refl, refl);
+  inlet-first = (refl, refl, refl, refl);
+  inlet-last = (refl, refl, refl, refl);
+  to-the-top = (refl, refl, refl, refl);
+  past-the-top = (refl, refl, refl, refl);
+  limit-before-the-top = (refl, refl, refl, refl);
+  sixty-four = refl;
+  sixty-five = (refl, refl, refl, refl);
+  left-over = (refl, refl, refl, refl);
+  no-such-cell = (refl, refl, refl, refl);
+  no-such-cell-below = (refl, refl, refl, refl);
+  amount-too-great = (refl, refl, refl, refl);
+  amount-too-small = (refl, refl, refl, refl);
+  totals = refl;
   text-0 = refl;
   text-9999 = refl;
   text-10000 = refl;

@@ -1,7 +1,6 @@
 // The records of the trade. What they mean, and every definition that a contract cites, stands in specs/.
 ghost use mathlib.Core.Path.{_≡_};
-ghost use Prim.Native.Nat.{_<_};
-ghost use Rattle.rules.specs.Run.{accepted};
+ghost use Rattle.rules.specs.Pumps.{HasRoom, oneMore};
 
 // The site card. Sides are in micrometres, dt in milliseconds.
 #[repr(C)]
@@ -40,21 +39,25 @@ pub struct Face {
     pub uBelow: i32,
 }
 
-// What a run hands from step to step: steps done, the reason it stopped, and the greatest height so far.
+// What a run hands from step to step: steps done, the reason it stopped, the greatest height so far, and how much pumps added and took.
 #[repr(C)]
 pub struct Tally {
     pub steps: u32,
     pub reason: u32,
     pub top: i32,
+    pub added: u64,
+    pub taken: u64,
 }
 
 impl Tally {
-    // One accepted step more, whose state has the greatest height `peak`.
-    pub fn accept(mut self, peak: i32) -> Tally
-        requires { ⌜ self .steps < 10000 ⌝ }
-        ensures { λ r. ⌜ r ≡ accepted self peak ⌝ }
+    // One accepted step more, whose state has the greatest height `peak`, and in which pumps added and took so much.
+    pub fn accept(mut self, peak: i32, added: u64, taken: u64) -> Tally
+        requires { ⌜ HasRoom self added taken ⌝ }
+        ensures { λ r. ⌜ r ≡ oneMore self peak added taken ⌝ }
     {
         self.steps = self.steps + 1;
+        self.added = self.added + added;
+        self.taken = self.taken + taken;
         if self.top <= peak {
             self.top = peak;
         }
