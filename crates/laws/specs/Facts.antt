@@ -13,7 +13,7 @@ use borrow.Author.Tests.{ltb-true, ltb-false, eq-eqb}
 use lib.Arith.{digits-lt}
 use Rattle.rules.specs.declared.Card.{Card}
 use Rattle.rules.specs.Grid.{all}
-use Rattle.rules.specs.Site.{within, sizesFit, sidesFit, timesFit, cardFits, stateLength, lengthsFit, readGround, readState, groundFits, heightFits, speedFits, groundsFit, heightsFit, velocitiesFit, wallsStill, valuesFit, firstOf, checkAlso, check, checkWith}
+use Rattle.rules.specs.Site.{within, sizesFit, sidesFit, timesFit, cardFits, stateLength, lengthsFit, readGround, readState, groundFits, heightFits, speedFits, groundsFit, heightsFit, velocitiesFit, wallsStill, valuesFit, checkAlso, check}
 use Rattle.laws.specs.Tests.{and-left, and-right, three-of, four-of, to-T, true-of}
 use Rattle.laws.specs.Grids.{all-at}
 use Rattle.laws.specs.Values.{grounds-flat, depths-flat, faces-flat}
@@ -106,6 +106,7 @@ pub record Fits (c : Card) (g s : List ℤ) : Type 0 where
   pub lengths : Lengths c g s
   -- by place in the list
   pub ground : (k : ℕ) → natAbs (getD g k (pos 0)) ≤ 50000000
+  pub height-low : (k : ℕ) → k < c .rows * c .columns → T (leZ (pos 0) (getD s k (pos 0)))
   pub height-high : (k : ℕ) → k < c .rows * c .columns → natAbs (getD s k (pos 0)) ≤ 50000000
   pub speed : (k : ℕ) → natAbs (getD s (c .rows * c .columns + k) (pos 0)) ≤ 20000000
   -- by column and row
@@ -166,6 +167,7 @@ sound-facts c g s sound =
       card = card-facts c (sound .card);
       lengths = lengths;
       ground = ground;
+      height-low = λ k h. low-of (getD s k (pos 0)) (height k h);
       height-high = λ k h. high-of (getD s k (pos 0)) (height k h);
       speed = speed;
       ground-at = λ i j. ground (j * c .columns + i);
@@ -221,25 +223,3 @@ check-facts c g s e = sound-facts c g s (check-sound c g s e)
 pub record SoundWith (c : Card) (g s more : List ℤ) : Type 0 where
   pub sound : Sound c g s
   pub long : length more ≡ stateLength c
-
-pub check-with-sound : (c : Card) (g s more : List ℤ) → checkWith c g s (length more) ≡ 0 → SoundWith c g s more
-unfolding checkWith
-check-with-sound c g s more e =
-    let a = granted true (eqb (length more) (stateLength c)) true c g s e in
-    record { sound = a .sound; long = eqb→eq (length more) (stateLength c) (a .for-2) }
-
-pub check-of-with : (c : Card) (g s more : List ℤ) → checkWith c g s (length more) ≡ 0 → check c g s ≡ 0
-check-of-with c g s more e = sound-check c g s (check-with-sound c g s more e .sound)
-
-pub sound-check-with : (c : Card) (g s more : List ℤ) → SoundWith c g s more → checkWith c g s (length more) ≡ 0
-unfolding checkWith checkAlso
-sound-check-with c g s more w = rw (eq-eqb (length more) (stateLength c) (w .long)) (together (w .sound))
-
--- it says the same as the check without that list, where the list is as long as the state
-pub check-own : (c : Card) (g s : List ℤ) → checkWith c g s (length s) ≡ check c g s
-unfolding checkWith check checkAlso lengthsFit
-check-own c g s =
-    let ground = eqb (length g) (c .rows * c .columns) in
-    let state = eqb (length s) (stateLength c) in
-    ap (λ (l : Bool). firstOf (cardFits c) l (valuesFit c (readGround c g) (readState c s)))
-    (and-comm state (ground && state) ∙ and-assoc ground state state ∙ ap (λ (b : Bool). ground && b) (and-self state))

@@ -17,6 +17,11 @@ pub mod Runs
 pub mod Follows
 pub mod Walls
 pub mod Still
+pub mod Stored
+pub mod Pumped
+pub mod PumpChecks
+pub mod Counting
+pub mod PumpedSteps
 pub mod Velocity
 pub mod Textbook
 pub mod Engines

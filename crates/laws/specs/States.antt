@@ -11,7 +11,7 @@ use lib.Arith.{digits-lt}
 use Rattle.rules.specs.Grid.{Field, tabulate, grid}
 use Rattle.laws.specs.Grids.{tabulate-add, tabulate-read, grid-flat, length-grid, getD-grid, grid-same, greatest-same, pos-columns}
 use Rattle.rules.specs.declared.Card.{Card}
-use Rattle.rules.specs.Site.{Water, readGround, readState, writeState, stateLength}
+use Rattle.rules.specs.Site.{Water, cells, readGround, readState, writeState, stateLength}
 use Rattle.rules.specs.Run.{peak}
 
 -- getD behind a front whose length is known
@@ -50,6 +50,11 @@ module _ (c : Card) (w : Water) where
       getD-behind hs (es ++ ns) (c .rows * c .columns) (c .rows * suc (c .columns) + (j * c .columns + i)) (pos 0) (length-grid (c .columns) (c .rows) (w .height))
       ∙ getD-behind es ns (c .rows * suc (c .columns)) (j * c .columns + i) (pos 0) (length-grid (suc (c .columns)) (c .rows) (w .east))
       ∙ getD-grid (c .columns) (suc (c .rows)) (w .north) i j (pos 0) hi (suc-le-suc hj)
+
+  -- behind the heights
+  pub faces-back : (m : ℕ) → getD (writeState c w) (cells c + m) (pos 0) ≡ getD (es ++ ns) m (pos 0)
+  unfolding writeState
+  faces-back m = getD-behind hs (es ++ ns) (cells c) m (pos 0) (length-grid (c .columns) (c .rows) (w .height))
 
   pub length-state : length (writeState c w) ≡ stateLength c
   unfolding writeState stateLength
