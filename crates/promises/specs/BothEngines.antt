@@ -34,13 +34,13 @@ banks-in-both dt d f e = (on-a-bank rise dt d f e, on-a-bank textbookRise dt d f
 pub carries-over : (Promised : Rule → Type 0) → Promised newVelocity → Promised textbookVelocity
 carries-over Promised = subst Promised (sym one-rule)
 
--- the call's number, and its next state at exit
-pub same-answer : (c : Card) (g s next : List ℤ) → textbookAnswer c g s next ≡ stepAnswer c g s next
-same-answer c g s next = ap (λ (rule : Rule). stepAnswerBy rule c g s next) one-rule
+-- the call's number, and its next state at exit, with any pumps
+pub same-answer : (c : Card) (g s ps next : List ℤ) → textbookAnswer c g s ps next ≡ stepAnswer c g s ps next
+same-answer c g s ps next = ap (λ (rule : Rule). stepAnswerBy rule c g s ps next) one-rule
 
-pub same-next : (c : Card) (g s next : List ℤ) → textbookNext c g s next ≡ stepNext c g s next
-same-next c g s next = ap (λ (rule : Rule). stepNextBy rule c g s next) one-rule
+pub same-next : (c : Card) (g s ps next : List ℤ) → textbookNext c g s ps next ≡ stepNext c g s ps next
+same-next c g s ps next = ap (λ (rule : Rule). stepNextBy rule c g s ps next) one-rule
 
 -- any outcome that the one contract allows equals any that the other does
-pub engines-agree : {c : Card} {g s n : List ℤ} {k k′ : ℕ} {v v′ : List ℤ} → TextbookContract c g s n k v → StepContract c g s n k′ v′ → (k ≡ k′) × (v ≡ v′)
-engines-agree {c} {g} {s} {n} p q = (p .answer ∙ same-answer c g s n ∙ sym (q .answer), p .next-exit ∙ same-next c g s n ∙ sym (q .next-exit))
+pub engines-agree : {c : Card} {g s ps n : List ℤ} {k k′ : ℕ} {v v′ : List ℤ} → TextbookContract c g s ps n k v → StepContract c g s ps n k′ v′ → (k ≡ k′) × (v ≡ v′)
+engines-agree {c} {g} {s} {ps} {n} p q = (p .answer ∙ same-answer c g s ps n ∙ sym (q .answer), p .next-exit ∙ same-next c g s ps n ∙ sym (q .next-exit))

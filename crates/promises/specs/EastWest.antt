@@ -1,22 +1,27 @@
 -- East for west: one step of the turned site is the step turned, and the turn taken twice gives the site back.
-use Prim.Native.Nat.{ℕ, _-_}
+use Prim.Native.Nat.{ℕ, _+_, _-_, _*_, _/_, _%_, _<_}
 use mathlib.Core.Path.{_≡_, refl, sym, ap, _∙_}
 use mathlib.Core.List.{List}
 use native.Mathlib.Omega.{arith}
-use lib.IntN.{ℤ, negℤ, negℤ-negℤ}
+use lib.IntN.{ℤ, pos, negℤ, negℤ-negℤ}
+use lib.ListN.{getD}
+use lib.Arith.{digits-lt}
 use Rattle.rules.specs.declared.Card.{Card}
-use Rattle.rules.specs.Site.{readGround, readState, check}
+use Rattle.rules.specs.Grid.{Field}
+use Rattle.rules.specs.Site.{cells, readGround, readState, check}
 use Rattle.rules.specs.Step.{newVelocity, next, stepNumberBy, stepNumber, nextStateBy, nextState}
 use Rattle.rules.specs.Run.{peak}
 use Rattle.rules.specs.Turn.{eastWest}
 use Rattle.rules.proofs.Fair.{fair}
 use Rattle.laws.specs.Grids.{length-grid, grid-same}
-use Rattle.laws.specs.States.{height-back, east-back, north-back, ground-back, write-same, peak-same, write-read, grid-read}
+use Rattle.laws.specs.States.{height-back, east-back, north-back, ground-back, write-same, peak-same, write-read, grid-read, length-state}
 use Rattle.laws.specs.Facts.{check-sound, sound-check}
 use Rattle.laws.specs.Keeps.{written-fits}
 use Rattle.promises.specs.Mirror.{Mirror, MirrorField, next-mirror}
 use Rattle.promises.specs.MirrorNumbers.{numbers, values-same}
+use Rattle.laws.specs.Stored.{SameFaces, east-same, north-same, faces-written}
 use Rattle.promises.specs.Turning.{Lawful}
+use Rattle.promises.specs.Cells.{at, read-back, told-apart, comes-from}
 use Rattle.promises.specs.TakenTwice.{GivesBack}
 
 module _ (c : Card) (g s : List ℤ) where
@@ -64,6 +69,34 @@ module _ (c : Card) (g s : List ℤ) where
         values = values-same c (readState c s) (readState c (eastWest .state c s)) state-mirrored (readGround c g) (readGround c (eastWest .ground c g)) ground-mirrored ∙ p .values;
       })
 
+-- ---- the cells: each goes to the mirrored column of its row
+
+mirrored-column : (c : Card) (i : ℕ) → i < c .columns → c .columns - 1 - i < c .columns
+mirrored-column c i h = omega arith
+
+cell-place : (c : Card) (k : ℕ) → k < cells c → eastWest .cell c k < cells c
+cell-place c k h = let a = at c k h in digits-lt (a .row) (mirrored-column c (k % c .columns) (a .column))
+
+cell-twice : (c : Card) (k : ℕ) → k < cells c → eastWest .cell c (eastWest .cell c k) ≡ k
+cell-twice c k h =
+    let a = at c k h in
+    let i = k % c .columns in
+    let back : c .columns - 1 - (c .columns - 1 - i) ≡ i = omega (arith, a .column) in
+    read-back (λ (x y : ℕ). y * c .columns + (c .columns - 1 - x)) (c .columns) (c .columns - 1 - i) (k / c .columns) (mirrored-column c i (a .column))
+    ∙ ap (λ (x : ℕ). k / c .columns * c .columns + x) back
+    ∙ a .is
+
+cell-height : (c : Card) (s : List ℤ) (k : ℕ) → k < cells c → getD (eastWest .state c s) (eastWest .cell c k) (pos 0) ≡ getD s k (pos 0)
+unfolding readState
+cell-height c s k h =
+    let a = at c k h in
+    let i = k % c .columns in
+    state-mirrored c s s .height (c .columns - 1 - i) i (k / c .columns) (omega (arith, a .column)) (a .row) ∙ ap (λ (x : ℕ). getD s x (pos 0)) (a .is)
+
+cell-faces : (c : Card) (s v : List ℤ) → SameFaces c s v → SameFaces c (eastWest .state c s) (eastWest .state c v)
+cell-faces c s v e =
+    faces-written c _ _ (ap (λ (f : Field). λ i j. negℤ (f (c .columns - i) j)) (east-same e)) (ap (λ (f : Field). λ i j. f (c .columns - 1 - i) j) (north-same e))
+
 pub lawful : Lawful eastWest
 lawful = record {
   steps = λ c. refl;
@@ -71,11 +104,18 @@ lawful = record {
   numbers = number-mirrored;
   states = next-mirrored;
   peaks = λ c s. peak-mirrored c s s;
+  places = cell-place;
+  apart = told-apart eastWest (λ c. refl) cell-place cell-twice;
+  from = comes-from eastWest (λ c. refl) cell-place cell-twice;
+  long = λ c s. length-state c _;
+  heights = cell-height;
+  faces = cell-faces;
 }
 
 pub gives-back : GivesBack eastWest
 gives-back = record {
   card = λ c. refl;
+  cell = cell-twice;
   ground = λ c g e.
       grid-same (c .columns) (c .rows) _ (readGround c g) (λ i j hi hj. ground-mirrored c g g .same (c .columns - 1 - i) i j (omega arith) hj)
       ∙ grid-read c g e;

@@ -2,17 +2,16 @@
 use Prim.Native.Nat.{ℕ, zero, suc, _+_, _≤_, _<_}
 use mathlib.Core.Path.{_≡_, refl, sym, subst}
 use native.Mathlib.Omega.{arith}
-use Rattle.rules.specs.declared.Tally.{Tally}
-use Rattle.rules.specs.Run.{SteppingOf, OutcomeOf, started, accepted, stoppedFor, runOn, runFrom}
+use Rattle.rules.specs.Run.{Progress, SteppingOf, OutcomeOf, started, accepted, stoppedFor, runOn, runFrom}
 use Rattle.laws.specs.Runs.{Keeps, further, finished, by-step}
 
 -- how a run ends that wants so many steps in all: its end state passes, its reason is 0 or the number of a step, and its steps and reason agree
 pub record EndsAs {S : Type 0} (Passes : S → Type 0) (OfAStep : ℕ → Type 0) (wanted : ℕ) (o : OutcomeOf S) : Type 0 where
   pub passes : Passes (o .state)
-  pub reason : OfAStep (o .tally .reason)
-  pub notMore : o .tally .steps ≤ wanted
-  pub allOfThem : o .tally .reason ≡ 0 → o .tally .steps ≡ wanted
-  pub onlyThen : o .tally .steps ≡ wanted → o .tally .reason ≡ 0
+  pub reason : OfAStep (o .progress .reason)
+  pub notMore : o .progress .steps ≤ wanted
+  pub allOfThem : o .progress .reason ≡ 0 → o .progress .steps ≡ wanted
+  pub onlyThen : o .progress .steps ≡ wanted → o .progress .reason ≡ 0
 
 -- what that asks of the step: an accepted one leads from a state that passes to one that passes, and every number that it has is the number of a step
 pub record Proper {S : Type 0} (step : SteppingOf S) (Passes : S → Type 0) (OfAStep : ℕ → Type 0) : Type 0 where
@@ -22,10 +21,10 @@ pub record Proper {S : Type 0} (step : SteppingOf S) (Passes : S → Type 0) (Of
 
 module _ {S : Type 0} {step : SteppingOf S} {Passes : S → Type 0} {OfAStep : ℕ → Type 0} (𝓟 : Proper step Passes OfAStep) (wanted : ℕ) where
   abbrev FromHere : ℕ → Type 0
-  FromHere n = (t : Tally) (s : S) → t .steps + n ≡ wanted → t .reason ≡ 0 → Passes s → EndsAs Passes OfAStep wanted (runOn step n t s)
+  FromHere n = (t : Progress) (s : S) → t .steps + n ≡ wanted → t .reason ≡ 0 → Passes s → EndsAs Passes OfAStep wanted (runOn step n t s)
 
-  stops : (n r : ℕ) (t : Tally) (s : S) → t .steps + suc n ≡ wanted → 0 < r → OfAStep r → Passes s
-      → EndsAs Passes OfAStep wanted (record { tally = stoppedFor t r; state = s })
+  stops : (n r : ℕ) (t : Progress) (s : S) → t .steps + suc n ≡ wanted → 0 < r → OfAStep r → Passes s
+      → EndsAs Passes OfAStep wanted (record { progress = stoppedFor t r; state = s })
   unfolding stoppedFor
   stops n r t s w p k e = record {
     passes = e;
@@ -35,7 +34,7 @@ module _ {S : Type 0} {step : SteppingOf S} {Passes : S → Type 0} {OfAStep : �
     onlyThen = λ z. omega arith;
   }
 
-  goes-on : (n : ℕ) → FromHere n → (t : Tally) (s : S) → t .steps + suc n ≡ wanted → t .reason ≡ 0 → Passes s → step .number s ≡ 0
+  goes-on : (n : ℕ) → FromHere n → (t : Progress) (s : S) → t .steps + suc n ≡ wanted → t .reason ≡ 0 → Passes s → step .number s ≡ 0
       → EndsAs Passes OfAStep wanted (runOn step n (further step t s) (step .next s))
   unfolding accepted
   goes-on n ih t s w z e k = ih (further step t s) (step .next s) (omega arith) z (𝓟 .kept s e k)

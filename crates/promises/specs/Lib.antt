@@ -1,6 +1,7 @@
 pub mod Promises
 pub mod Demand3
 pub mod TakenTwice
+pub mod NoPumps
 pub mod NeverInTheMiddle
 pub mod NothingLost
 pub mod NoNegativeShare
@@ -23,6 +24,9 @@ pub mod OneStep
 pub mod OneOutcome
 pub mod Refused
 pub mod Turning
+pub mod Cells
+pub mod TurnedPumps
+pub mod TurnedRuns
 pub mod EastWest
 pub mod NorthSouth
 pub mod SwapAxes

@@ -2,7 +2,8 @@
 -- checks and each of its cells keeps the step limit, no own share is negative. (The limit is [9]'s; what keeps document 01's own keeps it too, NothingLost.antt.)
 -- So a step's number with that look is its number without it, a run is the same run, and neither the step nor the run ever answers 6.
 use Prim.Native.Nat.{ℕ, zero, suc, _≤_}
-use mathlib.Core.Path.{_≡_, refl, sym, subst, _∙_}
+use mathlib.Core.Path.{_≡_, refl, sym, ap, subst, _∙_}
+use native.Mathlib.Nat.{suc-ne-zero}
 use mathlib.Core.Bool.{Bool, true, false}
 use mathlib.Core.List.{List}
 use native.Mathlib.Omega.{arith}
@@ -12,21 +13,25 @@ use lib.Signed.{leZ}
 use lib.Dec.{T}
 use Rattle.rules.specs.declared.Card.{Card}
 use Rattle.rules.specs.Grid.{Field}
-use Rattle.rules.specs.Site.{Water, checkAlso, check, checkWith, firstRefusal, readGround, readState}
+use Rattle.rules.specs.Site.{Water, checkAlso, check, firstRefusal, readGround, readState}
 use Rattle.rules.specs.Step.{Rule, eastFace, northFace, ownShare, newVelocity, limitKept, newHeightsFit, newVelocitiesFit, answer, number, stepNumberBy, stepNumber, nextState}
-use Rattle.rules.specs.Run.{Stepping, peak, siteStep, runFrom, runAfter, run}
+use Rattle.rules.specs.Run.{Stepping, peak, siteStep, runFrom}
+use Rattle.rules.specs.Pumps.{checkPumped, checkPumpedWith, pumping, pumpedStep, PumpedOutcome, pumpedRunAfter, pumpedRun}
 use Rattle.rules.specs.Calls.{stepAnswer, runOutcome, runTally, stepAnswerBy}
 use Rattle.laws.specs.Tests.{true-of, to-T}
 use Rattle.laws.specs.Checks.{at-most-3}
-use Rattle.laws.specs.Facts.{card-facts, sound-depths, check-sound, check-of-with}
+use Rattle.laws.specs.Facts.{card-facts, sound-depths, check-sound, sound-check}
 use Rattle.laws.specs.Bounded.{east-share, north-share}
 use Rattle.laws.specs.Keeps.{keeps}
-use Rattle.laws.specs.Runs.{begun}
-use Rattle.laws.specs.Follows.{Follows, follows}
+use Rattle.laws.specs.Follows.{Follows, Always, follows}
+use Rattle.laws.specs.Pumped.{sound-pumped}
+use Rattle.laws.specs.PumpChecks.{PumpsPass, checked, checked-of-with}
+use Rattle.laws.specs.Counting.{uncounted, told, counting, counting-follows}
+use Rattle.laws.specs.PumpedSteps.{pumping-follows, pumped-run, pumped-refused}
 use Rattle.laws.specs.Outcomes.{first-same}
 use Rattle.promises.specs.InnerFaces.{EveryInner, everyInner, inner-intro}
 use Rattle.promises.specs.TheCall.{call-runs}
-use Rattle.promises.specs.NeverInTheMiddle.{OfAStep, done, overTheLimit, tooHigh, tooFast, step-numbers, Ends, ends}
+use Rattle.promises.specs.NeverInTheMiddle.{OfAStep, done, overTheLimit, tooHigh, tooFast, pumped-numbers, Ends, ends}
 
 -- ---- Document 01's test for 6
 
@@ -99,7 +104,7 @@ pub number-without-6 : (rule : Rule) (c : Card) (g s : List ℤ) → check c g s
 unfolding numberWith6 stepNumberBy number
 number-without-6 rule c g s e = passed-over (limitKept c (readState c s)) (newHeightsFit c (readState c s)) _ _ (shares-fit c g s e)
 
-follows-without-6 : (c : Card) (g : List ℤ) → Follows (λ s. check c g s ≡ 0) (λ k. Unit {0}) (λ s. s) (siteStep c g) (stepWith6 c g)
+follows-without-6 : (c : Card) (g : List ℤ) → Follows (λ s. check c g s ≡ 0) Always (λ s. s) (siteStep c g) (stepWith6 c g)
 follows-without-6 c g = record {
   kept = keeps c g;
   done = tt;
@@ -108,9 +113,25 @@ follows-without-6 c g = record {
   peaks = λ s e. refl;
 }
 
--- and its run is the same; of the call, lent a scratch list as long as its state
-pub run-without-6 : (c : Card) (g s scratch : List ℤ) → check c g s ≡ 0 → length scratch ≡ length s → runOutcome c g s scratch ≡ runFrom (stepWith6 c g) (c .steps) s
-run-without-6 c g s scratch e l = call-runs c g s scratch l ∙ begun c g s e ∙ sym (follows (follows-without-6 c g) (c .steps) s e tt)
+-- with pumps too: the step from the pumped state has the same number
+pumped-without-6 : (c : Card) (g ps : List ℤ) → PumpsPass c ps → Follows (λ s. check c g s ≡ 0) Always (λ s. s) (pumpedStep c g ps) (pumping c ps (stepWith6 c g))
+pumped-without-6 c g ps pass =
+    pumping-follows (follows-without-6 c g) (record {
+      kept = λ s e i. sound-check c g _ (sound-pumped c ps (pass .fit) g s i (check-sound c g s e));
+      limits = λ s e. refl;
+      inlets = λ s e. refl;
+      states = λ s e. refl;
+    })
+
+-- and its run is the same; of the call, lent a scratch list as long as its state, whatever its pumps
+pub run-without-6 : (c : Card) (g s ps scratch : List ℤ) → checkPumped c g s ps ≡ 0 → length scratch ≡ length s
+    → runOutcome c g s ps scratch ≡ told (runFrom (counting ps (pumping c ps (stepWith6 c g))) (c .steps) (uncounted s))
+unfolding pumpedRun
+run-without-6 c g s ps scratch e l =
+    let p = checked c g s ps e in
+    call-runs c g s ps scratch l
+    ∙ pumped-run c g s ps (checkPumped c g s ps) e
+    ∙ ap told (sym (follows (counting-follows ps ps (pumped-without-6 c g ps (p .pumps)) refl (λ v q z. refl)) (c .steps) (uncounted s) (sound-check c g s (p .sound)) tt))
 
 -- ---- Of the step and the run, whatever they are lent: every answer stays, and none is 6. (No other call gives the numbers of a step.)
 
@@ -125,26 +146,30 @@ unfolding firstRefusal
 behind-checks zero n l h e = h e
 behind-checks (suc k) n l h e = omega (arith, l, e)
 
-module _ (c : Card) (g s lent : List ℤ) where
-  pub answer-without-6 : stepAnswer c g s lent ≡ firstRefusal (checkWith c g s (length lent)) (numberWith6 newVelocity c (readGround c g) (readState c s))
+module _ (c : Card) (g s ps lent : List ℤ) where
+  pub answer-without-6 : stepAnswer c g s ps lent ≡ firstRefusal (checkPumpedWith c g s ps (length lent)) (pumping c ps (stepWith6 c g) .number s)
   unfolding stepAnswerBy
-  answer-without-6 = first-same (checkWith c g s (length lent)) (λ z. sym (number-without-6 newVelocity c g s (check-of-with c g s lent z)))
+  answer-without-6 =
+      first-same (checkPumpedWith c g s ps (length lent))
+      (λ z. let p = checked c g s ps (checked-of-with c g s ps lent z) in sym (pumped-without-6 c g ps (p .pumps) .numbers s (sound-check c g s (p .sound)) tt))
 
-  checks-low : checkWith c g s (length lent) ≤ 3
-  unfolding checkWith checkAlso
+  checks-low : checkPumpedWith c g s ps (length lent) ≤ 3
+  unfolding checkPumpedWith checkAlso
   checks-low = at-most-3 _ _ _
 
-  pub step-never-6 : stepAnswer c g s lent ≡ 6 → ⊥
+  pub step-never-6 : stepAnswer c g s ps lent ≡ 6 → ⊥
   unfolding stepAnswerBy
-  step-never-6 = behind-checks (checkWith c g s (length lent)) (stepNumber c g s) checks-low (not-6 (step-numbers c g s))
+  step-never-6 = behind-checks (checkPumpedWith c g s ps (length lent)) (pumpedStep c g ps .number s) checks-low (not-6 (pumped-numbers c g ps s))
 
-  reasons : (k : ℕ) → k ≤ 3 → (k ≡ 0 → check c g s ≡ 0) → runAfter k c g s .tally .reason ≡ 6 → ⊥
-  unfolding run runAfter
+  reasons : (k : ℕ) → k ≤ 3 → (k ≡ 0 → checkPumped c g s ps ≡ 0) → pumpedRunAfter k c g s ps .tally .reason ≡ 6 → ⊥
+  unfolding pumpedRun
   reasons zero l sound e =
       let z = sound refl in
-      not-6 (subst (λ (k : ℕ). Ends c g (c .steps) (runAfter k c g s)) z (ends c g s z) .reason) e
-  reasons (suc k) l sound e = omega (arith, l, e)
+      not-6 (subst (λ (k : ℕ). Ends c g ps (c .steps) (pumpedRunAfter k c g s ps)) z (ends c g s ps z) .reason) e
+  reasons (suc k) l sound e =
+      let r : pumpedRunAfter (suc k) c g s ps .tally .reason ≡ suc k = ap (λ (o : PumpedOutcome). o .tally .reason) (pumped-refused c g s ps (suc k) (suc-ne-zero k)) in
+      omega (arith, l, e, r)
 
-  pub run-never-6 : runTally c g s lent .reason ≡ 6 → ⊥
+  pub run-never-6 : runTally c g s ps lent .reason ≡ 6 → ⊥
   unfolding runTally runOutcome
-  run-never-6 = reasons (checkWith c g s (length lent)) checks-low (check-of-with c g s lent)
+  run-never-6 = reasons (checkPumpedWith c g s ps (length lent)) checks-low (checked-of-with c g s ps lent)

@@ -1,5 +1,5 @@
 -- North for south is axes swapped, east for west, axes swapped: so it keeps what those two keep.
-use Prim.Native.Nat.{_-_}
+use Prim.Native.Nat.{ℕ, _+_, _-_, _*_, _/_, _%_, _<_}
 use mathlib.Core.Path.{_≡_, refl, ap, _∙_, subst}
 use mathlib.Core.List.{List}
 use native.Mathlib.Omega.{arith}
@@ -10,7 +10,8 @@ use Rattle.rules.specs.Site.{cells, stateLength}
 use Rattle.rules.specs.Turn.{Turn, eastWest, northSouth, swapAxes, swapCard}
 use Rattle.laws.specs.Grids.{length-grid, grid-same}
 use Rattle.laws.specs.States.{height-back, east-back, north-back, ground-back, length-state, write-same}
-use Rattle.promises.specs.Turning.{Lawful, _then_, both}
+use Rattle.promises.specs.Turning.{Lawful, _then_, both, withCell, same-cells}
+use Rattle.promises.specs.Cells.{at, read-back}
 use Rattle.promises.specs.TakenTwice.{GivesBack}
 use Rattle.promises.specs.EastWest as E
 use Rattle.promises.specs.SwapAxes as S
@@ -31,11 +32,24 @@ state-north c s =
       north = λ i j hi hj. east-back (swapCard c) _ j i hj hi ∙ ap negℤ (east-back (swapCard c) _ (c .rows - j) i (omega arith) hi);
     })
 
-north-is : swapTurnSwap ≡ northSouth
-north-is = λ x. record { card = λ c. c; ground = λ c g. ground-north c g x; state = λ c s. state-north c s x }
+-- of the cells that the site has
+cell-north : (c : Card) (k : ℕ) → k < cells c → swapTurnSwap .cell c k ≡ northSouth .cell c k
+cell-north c k h =
+    let a = at c k h in
+    let i = k % c .columns in
+    let j = k / c .columns in
+    let there : ℕ → ℕ → ℕ = λ x y. x * c .columns + y in
+    let mirrored : c .rows - 1 - j < c .rows = omega (arith, a .row) in
+    read-back (λ (x y : ℕ). there ((y * c .rows + (c .rows - 1 - x)) % c .rows) ((y * c .rows + (c .rows - 1 - x)) / c .rows)) (c .rows) j i (a .row)
+    ∙ read-back there (c .rows) (c .rows - 1 - j) i mirrored
+
+north-is : withCell swapTurnSwap (northSouth .cell) ≡ northSouth
+north-is = λ x. record { card = λ c. c; cell = northSouth .cell; ground = λ c g. ground-north c g x; state = λ c s. state-north c s x }
 
 pub lawful : Lawful northSouth
-lawful = subst Lawful north-is (both (_then_ swapAxes eastWest) swapAxes (both swapAxes eastWest S.lawful E.lawful) S.lawful)
+lawful =
+    subst Lawful north-is (same-cells swapTurnSwap (northSouth .cell) cell-north
+    (both (_then_ swapAxes eastWest) swapAxes (both swapAxes eastWest S.lawful E.lawful) S.lawful))
 
 -- each of the three turns undoes itself in turn, the last first
 ground-twice : (c : Card) (g : List ℤ) → length g ≡ cells c → swapTurnSwap .ground c (swapTurnSwap .ground c g) ≡ g
@@ -52,5 +66,15 @@ state-twice c s e =
     ∙ ap (swapAxes .state (swapCard c)) (E.gives-back .state (swapCard c) _ (length-state (swapCard c) _))
     ∙ S.gives-back .state c s e
 
+-- and a row goes to the mirrored one, and back
+cell-twice : (c : Card) (k : ℕ) → k < cells c → northSouth .cell c (northSouth .cell c k) ≡ k
+cell-twice c k h =
+    let a = at c k h in
+    let j = k / c .columns in
+    let back : c .rows - 1 - (c .rows - 1 - j) ≡ j = omega (arith, a .row) in
+    read-back (λ (x y : ℕ). (c .rows - 1 - y) * c .columns + x) (c .columns) (k % c .columns) (c .rows - 1 - j) (a .column)
+    ∙ ap (λ (y : ℕ). y * c .columns + k % c .columns) back
+    ∙ a .is
+
 pub gives-back : GivesBack northSouth
-gives-back = subst GivesBack north-is (record { card = λ c. refl; ground = ground-twice; state = state-twice })
+gives-back = subst GivesBack north-is (record { card = λ c. refl; cell = cell-twice; ground = ground-twice; state = state-twice })

@@ -2,9 +2,9 @@
 -- own limit accepted is accepted, with the same next state; so is every run of such steps. No answer but 4 changed. (What is said of the numbers holds by any rule
 -- for the new velocities, by document 01's without [2]'s banks too; the next state asks for no limit.)
 use Prim.Native.Nat.{ℕ, suc, _+_, _*_}
-use mathlib.Core.Path.{_≡_, refl, sym, _∙_}
+use mathlib.Core.Path.{_≡_, refl, sym, ap, _∙_}
 use mathlib.Core.Bool.{Bool, true, false}
-use mathlib.Core.List.{List}
+use mathlib.Core.List.{List, []}
 use native.Mathlib.Nat.{le-trans, add-le-add, mul-le-mul-right, mul-le-mul-left}
 use native.Mathlib.Omega.{arith}
 use lib.IntN.{ℤ, pos, natAbs}
@@ -12,18 +12,20 @@ use lib.ListN.{length}
 use lib.Dec.{T, leb, leb→le, le→leb}
 use Rattle.rules.specs.declared.Card.{Card}
 use Rattle.rules.specs.Grid.{all, allAt}
-use Rattle.rules.specs.Site.{Water, check, checkWith, firstRefusal, readGround, readState}
+use Rattle.rules.specs.Site.{Water, check, firstRefusal, readGround, readState}
 use Rattle.rules.specs.Step.{Rule, withinLimit, newVelocity, limitKept, newHeightsFit, newVelocitiesFit, answer, number, stepNumberBy, stepNumber, nextState}
-use Rattle.rules.specs.Run.{Stepping, peak, runFrom, siteStep}
+use Rattle.rules.specs.Run.{Stepping, peak, runFrom, siteStep, run}
+use Rattle.rules.specs.Pumps.{checkPumpedWith, pumpedStep}
 use Rattle.rules.specs.Calls.{stepAnswer, stepNext, runOutcome, stepAnswerBy}
 use Rattle.rules.specs.Starred.{oneRow, flat, two, passing, through}
 use Rattle.laws.specs.Grids.{allAt-at, allAt-intro}
 use Rattle.laws.specs.Outward.{forward-size, backward-size}
-use Rattle.laws.specs.Facts.{check-of-with}
+use Rattle.laws.specs.PumpChecks.{check-alone, checked-of-with}
 use Rattle.laws.specs.Outcomes.{first-passed, first-same}
 use Rattle.laws.specs.Keeps.{keeps}
 use Rattle.laws.specs.Runs.{begun}
 use Rattle.laws.specs.Follows.{Follows, follows}
+use Rattle.promises.specs.NoPumps.{unpumped, no-pumps-step, no-pumps-check, no-pumps-run}
 use Rattle.promises.specs.TheCall.{call-steps, call-leaves, call-runs}
 use Rattle.promises.specs.NoNegativeShare.{sharesFit, answerWith6, passed-over, shares-fit}
 
@@ -52,8 +54,8 @@ oldStep c g = record { number = oldNumber c g; next = nextState c g; peak = peak
 
 -- a step that was accepted: the call's number is 0, and it leaves the next state
 pub record StillAccepted (c : Card) (g s next : List ℤ) : Type 0 where
-  pub number : stepAnswer c g s next ≡ 0
-  pub state : stepNext c g s next ≡ nextState c g s
+  pub number : stepAnswer c g s [] next ≡ 0
+  pub state : stepNext c g s [] next ≡ nextState c g s
 
 -- ---- Why
 
@@ -107,24 +109,28 @@ follows-old c g = record {
 
 -- ---- The theorems
 
--- of the call, for every input
-pub answer-stays : (c : Card) (g s next : List ℤ) → (firstRefusal (checkWith c g s (length next)) (oldNumber c g s) ≡ 4 → ⊥)
-    → stepAnswer c g s next ≡ firstRefusal (checkWith c g s (length next)) (oldNumber c g s)
+-- of the call, for every input without pumps, which document 01 did not know
+pub answer-stays : (c : Card) (g s next : List ℤ) → (firstRefusal (checkPumpedWith c g s [] (length next)) (oldNumber c g s) ≡ 4 → ⊥)
+    → stepAnswer c g s [] next ≡ firstRefusal (checkPumpedWith c g s [] (length next)) (oldNumber c g s)
 unfolding stepAnswerBy
 answer-stays c g s next n =
-    let k = checkWith c g s (length next) in
-    first-same k (λ z. number-stays c g s (check-of-with c g s next z) (λ f. n (first-passed k (oldNumber c g s) z ∙ f)))
+    let k = checkPumpedWith c g s [] (length next) in
+    ap (λ (x : Stepping). firstRefusal k (x .number s)) (no-pumps-step newVelocity c g)
+    ∙ first-same k (λ z. number-stays c g s (check-alone c g s [] (checked-of-with c g s [] next z)) (λ f. n (first-passed k (oldNumber c g s) z ∙ f)))
 
 pub step-stays : (c : Card) (g s next : List ℤ) → check c g s ≡ 0 → length next ≡ length s → oldNumber c g s ≡ 0 → StillAccepted c g s next
 unfolding firstRefusal
 step-stays c g s next e l z =
-    let n : stepNumber c g s ≡ 0 = was-done c g s e z in
-    let a : stepAnswer c g s next ≡ 0 = call-steps c g s next l ∙ rw (e, n) in
-    record { number = a; state = call-leaves c g s next a }
+    let same = no-pumps-step newVelocity c g in
+    let n : pumpedStep c g [] .number s ≡ 0 = ap (λ (x : Stepping). x .number s) same ∙ was-done c g s e z in
+    let a : stepAnswer c g s [] next ≡ 0 = call-steps c g s [] next l ∙ rw (no-pumps-check c g s, e, n) in
+    record { number = a; state = call-leaves c g s [] next a ∙ ap (λ (x : Stepping). x .next s) same }
 
-pub run-stays : (c : Card) (g s scratch : List ℤ) → check c g s ≡ 0 → length scratch ≡ length s → (runFrom (oldStep c g) (c .steps) s .tally .reason ≡ 4 → ⊥)
-    → runOutcome c g s scratch ≡ runFrom (oldStep c g) (c .steps) s
-run-stays c g s scratch e l h = call-runs c g s scratch l ∙ begun c g s e ∙ follows (follows-old c g) (c .steps) s e h
+pub run-stays : (c : Card) (g s scratch : List ℤ) → check c g s ≡ 0 → length scratch ≡ length s → (runFrom (oldStep c g) (c .steps) s .progress .reason ≡ 4 → ⊥)
+    → runOutcome c g s [] scratch ≡ unpumped (runFrom (oldStep c g) (c .steps) s)
+unfolding run
+run-stays c g s scratch e l h =
+    call-runs c g s [] scratch l ∙ no-pumps-run c g s ∙ ap unpumped (begun (siteStep c g) (c .steps) s (check c g s) e ∙ follows (follows-old c g) (c .steps) s e h)
 
 -- ---- On numbers of `Starred`: the old limit stood just as much where one face moves, and refused the 3×1 site with both inner faces at 6,000,000
 

@@ -15,13 +15,13 @@ use Rattle.rules.specs.Contracts.{StepContractBy, RunContract, SearchContract, 
 
 -- ---- step, by either engine
 
-pub one-step : {rule : Rule} {c : Card} {g s n : List ℤ} {k k′ : ℕ} {v v′ : List ℤ} → StepContractBy rule c g s n k v → StepContractBy rule c g s n k′ v′ → (k ≡ k′) × (v ≡ v′)
+pub one-step : {rule : Rule} {c : Card} {g s ps n : List ℤ} {k k′ : ℕ} {v v′ : List ℤ} → StepContractBy rule c g s ps n k v → StepContractBy rule c g s ps n k′ v′ → (k ≡ k′) × (v ≡ v′)
 one-step p q = (cc, cc)
 
 -- ---- run
 
-pub one-run : {c : Card} {g s x : List ℤ} {t t′ : Tally} {v v′ y y′ : List ℤ}
-    → RunContract c g s x t v y → RunContract c g s x t′ v′ y′ → (t ≡ t′) × (v ≡ v′) × (y ≡ y′)
+pub one-run : {c : Card} {g s ps x : List ℤ} {t t′ : Tally} {v v′ y y′ : List ℤ}
+    → RunContract c g s ps x t v y → RunContract c g s ps x t′ v′ y′ → (t ≡ t′) × (v ≡ v′) × (y ≡ y′)
 one-run p q = (cc, cc, cc)
 
 -- ---- search, over two lists of numbers and over a row of chambers

@@ -6,13 +6,12 @@ use mathlib.Core.List.{List}
 use lib.IntN.{ℤ}
 use lib.ListN.{length}
 use Rattle.rules.specs.declared.Card.{Card}
-use Rattle.rules.specs.Site.{check, firstRefusal}
-use Rattle.rules.specs.Step.{stepNumber, nextState}
-use Rattle.rules.specs.Run.{run}
+use Rattle.rules.specs.Site.{firstRefusal}
+use Rattle.rules.specs.Pumps.{checkPumped, pumpedStep, pumpedRun}
 use Rattle.rules.specs.Calls.{stepAnswer, stepNext, runOutcome}
 use Rattle.rules.specs.Turn.{Turn, Obeys, eastWest, northSouth, swapAxes}
-use Rattle.laws.specs.Keeps.{keeps}
-use Rattle.promises.specs.Turning.{Lawful, obeys}
+use Rattle.promises.specs.Turning.{Lawful}
+use Rattle.promises.specs.TurnedRuns.{obeys}
 use Rattle.promises.specs.Demand3.{TurnsTheRun, turns-the-run, TurnsTheCall, turns-the-call}
 use Rattle.promises.specs.TakenTwice.{GivesBack}
 use Rattle.promises.specs.EastWest as EastWest
@@ -20,10 +19,9 @@ use Rattle.promises.specs.NorthSouth as NorthSouth
 use Rattle.promises.specs.SwapAxes as SwapAxes
 use Rattle.promises.specs.TheCall.{call-runs, call-steps, call-leaves}
 use Rattle.promises.specs.OneStep.{IsTheStep, is-the-step}
-use Rattle.promises.specs.NeverInTheMiddle.{Ends, ends}
+use Rattle.promises.specs.NeverInTheMiddle.{keeps, Ends, ends}
 use Rattle.promises.specs.StepsWanted.{wanting}
-use Rattle.promises.specs.Slices.{joined}
-use Rattle.promises.specs.SiteSlices.{site-in-slices}
+use Rattle.promises.specs.SiteSlices.{runsJoined, site-in-slices}
 -- of each public call: any two outcomes that its contract allows are equal, refused calls too
 pub use Rattle.promises.specs.OneOutcome.{one-step, one-run, one-search, one-row-search, one-reading, one-writing, one-text}
 -- and a refused call leaves every list as it was lent
@@ -43,9 +41,13 @@ pub use Rattle.promises.specs.NothingLost.{step-stays, run-stays, number
 -- of document 02's [7], that refusal 6 has no input: no own share is negative where the step limit is kept; a step's number, its answer and a run with document
 -- 01's look for 6 are those without it; neither the step nor the run ever answers 6
 pub use Rattle.promises.specs.NoNegativeShare.{no-negative-share, number-without-6, run-without-6, answer-without-6, step-never-6, run-never-6}
--- of document 02's [8], that no water is made and none is lost: the sum of all heights after a step, and after a run whatever its reason, is that before; so of the
--- public calls; and how great it can be
+-- of document 02's [8], that no water is made and none is lost: the sum of all heights after a step without pumps, and after such a run whatever its reason, is that
+-- before; so of the public calls; and how great it can be
 pub use Rattle.promises.specs.WaterKept.{next-sum-by, next-sum, run-sum, sum-of-the-step, sum-of-the-run, sum-fits}
+-- of document 02's [10], pumps: end sum plus taken equals start sum plus added, of a step by either engine, of every run, and of the public calls
+pub use Rattle.promises.specs.WaterKept.{pumped-sum, run-balances, step-call-balances, run-call-balances}
+-- and with an empty list the pumped step, the checks and the run are those without pumps, for every input: so [2]'s still water and [8]'s sum hold for it
+pub use Rattle.promises.specs.NoPumps.{no-pumps-step, no-pumps-check, no-pumps-run}
 -- and that what is carried stays between what came: the balance of each inner face; the bounds of the carried part of its new velocity, and that this velocity is
 -- that part less the slope, or 0 without water and on a dry bank; who does not count, walls, and what lies beyond them; and, on numbers, bounds that are met
 pub use Rattle.promises.specs.WhatCame.{balance, carried-between, slope-put-back, brought-nothing, walls-are-0, no-flow-beyond, bounds-on-numbers}
@@ -72,18 +74,18 @@ lawful eastForWest = EastWest.lawful
 lawful northForSouth = NorthSouth.lawful
 lawful swappedAxes = SwapAxes.lawful
 
--- the turned site's run is the run turned
+-- the turned site's run, its pumps' cells turned and their order kept, is the run turned
 pub demand3 : {t : Turn} → OfDocument01 t → Obeys t
 demand3 {t} d = obeys t (lawful d)
 
--- the same, field by field: steps done, reason, top, end state
-pub demand3-by-field : {t : Turn} → OfDocument01 t → (c : Card) (g s : List ℤ) → check c g s ≡ 0 → TurnsTheRun t c g s
+-- the same, field by field: steps done, reason, top, added, taken, end state
+pub demand3-by-field : {t : Turn} → OfDocument01 t → (c : Card) (g s ps : List ℤ) → checkPumped c g s ps ≡ 0 → TurnsTheRun t c g s ps
 demand3-by-field {t} d = turns-the-run t (lawful d)
 
 -- and so of the public call: each site lent a scratch list as long as its state, the turned call has the same tally and leaves the state turned
-pub demand3-of-the-call : {t : Turn} → OfDocument01 t → (c : Card) (g s scratch turnedScratch : List ℤ) → check c g s ≡ 0
+pub demand3-of-the-call : {t : Turn} → OfDocument01 t → (c : Card) (g s ps scratch turnedScratch : List ℤ) → checkPumped c g s ps ≡ 0
     → length scratch ≡ length s → length turnedScratch ≡ length (t .state c s)
-    → TurnsTheCall t c g s scratch turnedScratch
+    → TurnsTheCall t c g s ps scratch turnedScratch
 demand3-of-the-call {t} d = turns-the-call t (lawful d)
 
 -- a turn taken twice gives the site back
@@ -94,32 +96,32 @@ taken-twice swappedAxes = SwapAxes.gives-back
 
 -- ---- The step and the run, and so the public calls
 
--- lent a next state as long as its state, the call's number is the first three checks', and else the step's own
-pub the-call-steps : (c : Card) (g s next : List ℤ) → length next ≡ length s → stepAnswer c g s next ≡ firstRefusal (check c g s) (stepNumber c g s)
+-- lent a next state as long as its state, the call's number is the first three checks', and else the pumped step's own
+pub the-call-steps : (c : Card) (g s ps next : List ℤ) → length next ≡ length s → stepAnswer c g s ps next ≡ firstRefusal (checkPumped c g s ps) (pumpedStep c g ps .number s)
 the-call-steps = call-steps
 
 -- and where that number is 0, the call leaves the next state
-pub the-call-leaves : (c : Card) (g s next : List ℤ) → stepAnswer c g s next ≡ 0 → stepNext c g s next ≡ nextState c g s
+pub the-call-leaves : (c : Card) (g s ps next : List ℤ) → stepAnswer c g s ps next ≡ 0 → stepNext c g s ps next ≡ pumpedStep c g ps .next s
 the-call-leaves = call-leaves
 
 -- lent a scratch list as long as its state, the call's outcome is the run
-pub the-call-runs : (c : Card) (g s scratch : List ℤ) → length scratch ≡ length s → runOutcome c g s scratch ≡ run c g s
+pub the-call-runs : (c : Card) (g s ps scratch : List ℤ) → length scratch ≡ length s → runOutcome c g s ps scratch ≡ pumpedRun c g s ps
 the-call-runs = call-runs
 
 -- a run that wants 1 step is the step, for every input, where scratch is as long as the list for the next state: its reason is the step's number;
--- 0 leaves the step's next state after 1 step, and else the state is as it was after none
-pub one-step-runs : (c : Card) (g s next scratch : List ℤ) → c .steps ≡ 1 → length next ≡ length scratch → IsTheStep c g s next scratch
+-- 0 leaves the step's next state after 1 step, with what its pumps added and took, and else the state is as it was after none
+pub one-step-runs : (c : Card) (g s ps next scratch : List ℤ) → c .steps ≡ 1 → length next ≡ length scratch → IsTheStep c g s ps next scratch
 one-step-runs = is-the-step
 
--- a site that passes the first three checks still passes them after an accepted step
-pub still-passes : (c : Card) (g s : List ℤ) → check c g s ≡ 0 → stepNumber c g s ≡ 0 → check c g (nextState c g s) ≡ 0
+-- a site that passes the first three checks still passes them, with its pumps, after an accepted pumped step
+pub still-passes : (c : Card) (g s ps : List ℤ) → checkPumped c g s ps ≡ 0 → pumpedStep c g ps .number s ≡ 0 → checkPumped c g (pumpedStep c g ps .next s) ps ≡ 0
 still-passes = keeps
 
 -- so a run never meets 1 to 3 in its middle, and its steps and reason agree
-pub never-in-the-middle : (c : Card) (g s : List ℤ) → check c g s ≡ 0 → Ends c g (c .steps) (run c g s)
+pub never-in-the-middle : (c : Card) (g s ps : List ℤ) → checkPumped c g s ps ≡ 0 → Ends c g ps (c .steps) (pumpedRun c g s ps)
 never-in-the-middle = ends
 
--- a run of m + n steps is a run of m steps and then one of n from where it ended
-pub slices : (c : Card) (g s : List ℤ) (m n : ℕ) → check (wanting c (m + n)) g s ≡ 0
-    → run (wanting c (m + n)) g s ≡ joined (run (wanting c m) g s) (run (wanting c n) g)
+-- a run of m + n steps is a run of m steps and then one of n from where it ended, the totals added up
+pub slices : (c : Card) (g s ps : List ℤ) (m n : ℕ) → checkPumped (wanting c (m + n)) g s ps ≡ 0
+    → pumpedRun (wanting c (m + n)) g s ps ≡ runsJoined (pumpedRun (wanting c m) g s ps) (λ v. pumpedRun (wanting c n) g v ps)
 slices = site-in-slices

@@ -1,43 +1,42 @@
 -- A refused call leaves every list as it was lent: document 01's sentences about refusals, each of them read off the definitions of the calls.
 -- Texts.antt has the depth text's.
 use Prim.Native.Nat.{ℕ, _<_}
-use mathlib.Core.Path.{_≡_, refl, ap}
+use mathlib.Core.Path.{_≡_, ap}
 use mathlib.Core.List.{List}
 use native.Mathlib.Nat.{ne-of-gt}
 use lib.IntN.{ℤ, pos}
 use lib.ListN.{length, replicate}
 use Rattle.rules.specs.declared.Card.{Card}
 use Rattle.rules.specs.declared.Window.{Window}
-use Rattle.rules.specs.Site.{checkWith}
 use Rattle.rules.specs.Step.{Rule}
-use Rattle.rules.specs.Run.{Outcome}
+use Rattle.rules.specs.Pumps.{checkPumpedWith, PumpedOutcome}
 use Rattle.rules.specs.Sheet.{readNumber, noCard}
 use Rattle.rules.specs.Calls.{stepAnswerBy, stepNextBy, runOutcome, runTally, runState, runScratch, searchNumber, searchFound, searchCheck, searchAnswer, readAnswer, readGroundList, readStateList, writeNumber, writeAnswer, writeBytes}
 use Rattle.laws.specs.Asked.{places-refused}
 use Rattle.laws.specs.Outcomes.{if-done, if-refused}
-use Rattle.laws.specs.Runs.{refused-after}
+use Rattle.laws.specs.PumpedSteps.{pumped-refused}
 
 -- step, by either engine: the next state as lent
-pub step-refused : (rule : Rule) (c : Card) (g s next : List ℤ) → 0 < stepAnswerBy rule c g s next → stepNextBy rule c g s next ≡ next
+pub step-refused : (rule : Rule) (c : Card) (g s ps next : List ℤ) → 0 < stepAnswerBy rule c g s ps next → stepNextBy rule c g s ps next ≡ next
 unfolding stepNextBy
-step-refused rule c g s next h = if-refused _ _ _ (ne-of-gt h)
+step-refused rule c g s ps next h = if-refused _ _ _ (ne-of-gt h)
 
--- run, reasons 1 to 3: steps 0, top 0, both lists as lent
-pub record RunRefused (c : Card) (g s scratch : List ℤ) : Type 0 where
-  pub tally : runTally c g s scratch ≡ record { steps = 0; reason = checkWith c g s (length scratch); top = pos 0 }
-  pub state : runState c g s scratch ≡ s
-  pub scratch-as-lent : runScratch c g s scratch ≡ scratch
+-- run, reasons 1 to 3: steps 0, top 0, nothing added, nothing taken, both lists as lent
+pub record RunRefused (c : Card) (g s ps scratch : List ℤ) : Type 0 where
+  pub tally : runTally c g s ps scratch ≡ record { steps = 0; reason = checkPumpedWith c g s ps (length scratch); top = pos 0; added = 0; taken = 0 }
+  pub state : runState c g s ps scratch ≡ s
+  pub scratch-as-lent : runScratch c g s ps scratch ≡ scratch
 
-pub run-refused : (c : Card) (g s scratch : List ℤ) → 0 < checkWith c g s (length scratch) → RunRefused c g s scratch
+pub run-refused : (c : Card) (g s ps scratch : List ℤ) → 0 < checkPumpedWith c g s ps (length scratch) → RunRefused c g s ps scratch
 unfolding runTally runState runScratch runOutcome
-run-refused c g s scratch h =
-    let e = refused-after c g (checkWith c g s (length scratch)) s (checkWith c g s (length scratch)) h refl in
-    record { tally = ap (λ (o : Outcome). o .tally) e; state = ap (λ (o : Outcome). o .state) e; scratch-as-lent = if-refused _ _ _ (ne-of-gt h) }
+run-refused c g s ps scratch h =
+    let e = pumped-refused c g s ps (checkPumpedWith c g s ps (length scratch)) (ne-of-gt h) in
+    record { tally = ap (λ (o : PumpedOutcome). o .tally) e; state = ap (λ (o : PumpedOutcome). o .state) e; scratch-as-lent = if-refused _ _ _ (ne-of-gt h) }
 
 -- otherwise scratch is all zero, for 0 steps wanted too
-pub scratch-zero : (c : Card) (g s scratch : List ℤ) → checkWith c g s (length scratch) ≡ 0 → runScratch c g s scratch ≡ replicate (length scratch) (pos 0)
+pub scratch-zero : (c : Card) (g s ps scratch : List ℤ) → checkPumpedWith c g s ps (length scratch) ≡ 0 → runScratch c g s ps scratch ≡ replicate (length scratch) (pos 0)
 unfolding runScratch
-scratch-zero c g s scratch e = if-done _ _ _ e
+scratch-zero c g s ps scratch e = if-done _ _ _ e
 
 -- search: the list as lent, and for 1 to 3 the count 0
 pub search-refused : (c : Card) (g s xs ys : List ℤ) (w : Window) (depth : ℤ) (found : List ℕ) → 0 < searchNumber c g s xs ys w depth found

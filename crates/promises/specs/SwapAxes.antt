@@ -1,21 +1,27 @@
 -- Axes swapped: one step of the turned site is the step turned, and the turn taken twice gives the site back.
-use mathlib.Core.Path.{_≡_, refl, sym, _∙_}
+use Prim.Native.Nat.{ℕ, _+_, _*_, _/_, _%_, _<_}
+use mathlib.Core.Path.{_≡_, refl, sym, ap, _∙_}
 use mathlib.Core.Bool.{and-comm}
 use mathlib.Core.List.{List}
-use lib.IntN.{ℤ}
+use lib.IntN.{ℤ, pos}
+use lib.ListN.{getD}
+use lib.Arith.{digits-lt}
 use Rattle.rules.specs.declared.Card.{Card}
-use Rattle.rules.specs.Site.{within, sizesFit, sidesFit, timesFit, cardFits, readGround, readState, check}
+use Rattle.rules.specs.Grid.{Field}
+use Rattle.rules.specs.Site.{cells, within, sizesFit, sidesFit, timesFit, cardFits, readGround, readState, check}
 use Rattle.rules.specs.Step.{newVelocity, next, stepNumberBy, stepNumber, nextStateBy, nextState}
 use Rattle.rules.specs.Run.{peak}
 use Rattle.rules.specs.Turn.{swapAxes, swapCard}
 use Rattle.laws.specs.Grids.{length-grid, grid-same}
-use Rattle.laws.specs.States.{height-back, east-back, north-back, ground-back, write-same, peak-same, write-read, grid-read}
+use Rattle.laws.specs.States.{height-back, east-back, north-back, ground-back, write-same, peak-same, write-read, grid-read, length-state}
 use Rattle.laws.specs.Facts.{check-sound, sound-check}
 use Rattle.laws.specs.Keeps.{written-fits}
 use Rattle.promises.specs.Swap as S
 use Rattle.promises.specs.Swap.{Swapped, SwappedField}
 use Rattle.promises.specs.SwapNumbers.{numbers, values-same}
+use Rattle.laws.specs.Stored.{SameFaces, east-same, north-same, faces-written}
 use Rattle.promises.specs.Turning.{Lawful}
+use Rattle.promises.specs.Cells.{at, read-back, told-apart, comes-from}
 use Rattle.promises.specs.TakenTwice.{GivesBack}
 
 module _ (c : Card) (g s : List ℤ) where
@@ -67,6 +73,25 @@ module _ (c : Card) (g s : List ℤ) where
         values = values-same c (readState c s) (readState (swapCard c) (swapAxes .state c s)) state-swapped (readGround c g) (readGround (swapCard c) (swapAxes .ground c g)) ground-swapped ∙ p .values;
       })
 
+-- ---- the cells: column and row change places
+
+cell-place : (c : Card) (k : ℕ) → k < cells c → swapAxes .cell c k < cells (swapCard c)
+cell-place c k h = let a = at c k h in digits-lt (a .column) (a .row)
+
+cell-twice : (c : Card) (k : ℕ) → k < cells c → swapAxes .cell (swapCard c) (swapAxes .cell c k) ≡ k
+cell-twice c k h =
+    let a = at c k h in
+    read-back (λ (x y : ℕ). x * c .columns + y) (c .rows) (k / c .columns) (k % c .columns) (a .row) ∙ a .is
+
+cell-height : (c : Card) (s : List ℤ) (k : ℕ) → k < cells c → getD (swapAxes .state c s) (swapAxes .cell c k) (pos 0) ≡ getD s k (pos 0)
+unfolding readState
+cell-height c s k h =
+    let a = at c k h in
+    state-swapped c s s .height (k / c .columns) (k % c .columns) (a .row) (a .column) ∙ ap (λ (x : ℕ). getD s x (pos 0)) (a .is)
+
+cell-faces : (c : Card) (s v : List ℤ) → SameFaces c s v → SameFaces (swapCard c) (swapAxes .state c s) (swapAxes .state c v)
+cell-faces c s v e = faces-written (swapCard c) _ _ (ap (λ (f : Field). λ i j. f j i) (north-same e)) (ap (λ (f : Field). λ i j. f j i) (east-same e))
+
 pub lawful : Lawful swapAxes
 lawful = record {
   steps = λ c. refl;
@@ -74,11 +99,18 @@ lawful = record {
   numbers = number-swapped;
   states = next-swapped;
   peaks = λ c s. peak-swapped c s s;
+  places = cell-place;
+  apart = told-apart swapAxes (λ c. refl) cell-place cell-twice;
+  from = comes-from swapAxes (λ c. refl) cell-place cell-twice;
+  long = λ c s. length-state (swapCard c) _;
+  heights = cell-height;
+  faces = cell-faces;
 }
 
 pub gives-back : GivesBack swapAxes
 gives-back = record {
   card = λ c. refl;
+  cell = cell-twice;
   ground = λ c g e.
       grid-same (c .columns) (c .rows) _ (readGround c g) (λ i j hi hj. ground-swapped c g g .same j i hj hi)
       ∙ grid-read c g e;
