@@ -23,15 +23,14 @@ use Rattle.still.specs.Marks.{Marked, MarksRoom}
 use Rattle.around.specs.Faces.{Flowing}
 use Rattle.advance.specs.Advance.{StepRoom, MarkedRoom, LimitedRoom, NextRoom, Advanced}
 
-module _ {c : Card} {g s t n : List ℤ} (room : StepRoom c g s t n) where
-  pub sound : SoundState c s
-  sound = record { ground = g; site = room .sound }
+pub sound : {c : Card} {g s t n : List ℤ} → StepRoom c g s t n → SoundState c s
+sound {g} room = record { ground = g; site = room .sound }
 
-  -- room for the marks, and what they are good for
-  pub marks-room : {marks : List Bool} → length marks ≡ 128 → MarksRoom c s marks
-  marks-room {marks} e =
-      let f = facts sound in
-      record { card = f .card; long = f .lengths .state; room = omega (arith, e, f .card .rows-high) }
+-- room for the marks of a sound site, and what they are good for
+pub marks-room : {c : Card} {s : List ℤ} → SoundState c s → {marks : List Bool} → length marks ≡ 128 → MarksRoom c s marks
+marks-room sound {marks} e =
+    let f = facts sound in
+    record { card = f .card; long = f .lengths .state; room = omega (arith, e, f .card .rows-high) }
 
 pub marked-state : {c : Card} {g s t n : List ℤ} {marks : List Bool} → MarkedRoom c g s marks t n → MarkedState c s marks
 marked-state m = record { sound = sound (m .room); marked = m .marked }

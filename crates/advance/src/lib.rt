@@ -1,7 +1,9 @@
 // One step of a sound site, with a tide to work in. The still rows are marked first, and passed over by all that follows but the textbook engine's
 // velocities.
 ghost use Rattle.rules.specs.Site.{readGround, readState};
-ghost use Rattle.rules.specs.Step.{newVelocitiesFit, nextStateBy};
+ghost use mathlib.Core.Path.{_≡_};
+ghost use Rattle.rules.specs.Step.{limitKept, newVelocitiesFit, nextStateBy};
+ghost use Rattle.transfers.specs.Known.{SoundState};
 ghost use Rattle.laws.specs.Engines.{engine};
 ghost use Rattle.laws.specs.Tested.{Filled};
 ghost use Rattle.advance.specs.Advance.{StepRoom, MarkedRoom, LimitedRoom, NextRoom, Advanced};
@@ -92,6 +94,16 @@ fn advance_marked(
         return 4;
     }
     flow(card, ground, state, marks, tide, next, textbook)
+}
+
+// Whether the state of a sound site keeps the step limit: what a step looks at first, by itself.
+pub fn limit_kept(card: Card, state: &[i32]) -> bool
+    requires { ⌜ SoundState card (now state) ⌝ }
+    ensures { λ r. ⌜ r ≡ limitKept card (readState card (now (state .entry))) ⌝ }
+{
+    let mut marks = still::no_marks();
+    still::mark(card, state, &mut marks);
+    heights::look::limit_kept(card, state, &marks)
 }
 
 // The step's number, by the first engine or the textbook's. Where it is 0, `next` is the next state; otherwise nothing is promised of its words.

@@ -1,6 +1,6 @@
 -- `advance`: the marks have room for every row of a sound site.
 use borrow.Author.Needs.{needs}
-use Rattle.advance.proofs.Answers.{marks-room}
+use Rattle.advance.proofs.Answers.{sound, marks-room}
 use Rattle.advance.proofs.advance.Statement.{statement}
 use Rattle.advance.proofs.advance.Tie as tie
 
@@ -11,7 +11,7 @@ slice-aggregate-mark : tie.Need-slice-aggregate-mark
 slice-aggregate-mark c = search needs
 
 mark-requires : tie.Need-mark-requires
-mark-requires c κs = marks-room (c .before .before .pre) (c .before .no-marks .ensures)
+mark-requires c κs = marks-room (sound (c .before .before .pre)) (c .before .no-marks .ensures)
 
 slice-aggregate-advance-marked : tie.Need-slice-aggregate-advance-marked
 slice-aggregate-advance-marked c = search needs

@@ -1,0 +1,92 @@
+-- What a sound site with pumps gives a pumped step, and each answer of the step: an inlet past the top, a step that is refused and undone, and one that is accepted.
+use Prim.Native.Nat.{ℕ, _≤_, _<_}
+use mathlib.Core.Path.{_≡_, refl, sym, ap, _∙_, subst}
+use mathlib.Core.Bool.{Bool, true, false, cond}
+use mathlib.Core.List.{List}
+use native.Mathlib.Nat.{suc-ne-zero, le-refl}
+use native.Mathlib.Omega.{arith}
+use lib.IntN.{ℤ}
+use lib.ListN.{length}
+use Rattle.rules.specs.declared.Card.{Card}
+use Rattle.rules.specs.Site.{readState, stateLength}
+use Rattle.rules.specs.Step.{Rule, limitKept, stepNumberBy, nextStateBy}
+use Rattle.rules.specs.Pumps.{pumpAt, pumpCount, pumped, addedBy, takenBy, inletsFit, pumpedNumber, pumpedStepBy}
+use Rattle.laws.specs.Facts.{Sound, sound-facts}
+use Rattle.laws.specs.Pumped.{pump-facts, each-fits, sound-pumped, limit-pumped}
+use Rattle.laws.specs.PumpedSteps.{own-number, past-number, broken-limit}
+use Rattle.transfers.specs.Known.{SoundState}
+use Rattle.advance.specs.Advance.{StepRoom, Advanced}
+use Rattle.pumps.specs.declared.Flow.{Flow}
+use Rattle.pumps.specs.Turns.{Pumpable, Pumped, Undoable, back}
+use Rattle.pumped.specs.declared.Moved as Struct
+use Rattle.pumped.specs.Moved.{PumpedRoom, PumpedAdvanced}
+
+-- neither number of an inlet past the top is 0
+not-0 : (b : Bool) → _≡_ {A = ℕ} (cond b 5 4) 0 → ⊥
+not-0 true e = suc-ne-zero 4 e
+not-0 false e = suc-ne-zero 3 e
+
+module _ {c : Card} {g s ps found t n : List ℤ} (room : PumpedRoom c g s ps found t n) where
+  pub pumpable : Pumpable s ps found
+  pumpable = record { card = c; ground = g; sound = room .sound; fit = room .fit; few = room .few; room = room .room }
+
+  module _ {flow : Flow} {s′ found′ : List ℤ} (p : Pumped ps s flow s′ found′) where
+    -- ---- an inlet passed the top
+
+    module _ (past : flow .fits ≡ false) where
+      pub still-sound : SoundState c s′
+      still-sound = record { ground = g; site = subst (λ (x : List ℤ). Sound c g x) (sym (p .as-it-was past)) (room .sound) }
+
+      pub refused-inlet : (rule : Rule) (r : ℕ) {next : List ℤ} → r ≡ cond (limitKept c (readState c s′)) 5 4
+          → PumpedAdvanced rule c g ps s (record { number = r; added = 0; taken = 0 }) s′ next
+      unfolding pumpedNumber
+      refused-inlet rule r e =
+          let k : r ≡ cond (limitKept c (readState c s)) 5 4 = e ∙ ap (λ (x : List ℤ). cond (limitKept c (readState c x)) 5 4) (p .as-it-was past) in
+          let no : r ≡ 0 → ⊥ = λ z. not-0 (limitKept c (readState c s)) (sym k ∙ z) in
+          record {
+            number = k ∙ sym (past-number (limitKept c (readState c s)) (inletsFit ps s) (stepNumberBy rule c g (pumped ps s)) (sym (p .fits) ∙ past));
+            state = λ z. absurd (no z);
+            added = λ z. absurd (no z);
+            taken = λ z. absurd (no z);
+            undone = λ h. p .as-it-was past;
+          }
+
+    -- ---- none did
+
+    module _ (fit : flow .fits ≡ true) where
+      inlets : inletsFit ps s ≡ true
+      inlets = sym (p .fits) ∙ fit
+
+      pumped-sound : Sound c g s′
+      pumped-sound = subst (λ (x : List ℤ). Sound c g x) (sym (p .state fit)) (sound-pumped c ps (room .fit) g s inlets (room .sound))
+
+      pub step-room : StepRoom c g s′ t n
+      step-room = record { sound = pumped-sound; tide = room .tide; next = room .next }
+
+      pub undoable : length found′ ≡ length found → Undoable s′ ps found′ (pumpCount ps)
+      undoable kept = record {
+        few = le-refl (pumpCount ps);
+        room = omega (arith, room .few, room .room, kept);
+        cells-held = λ k h.
+            let f = pump-facts c (pumpAt ps k) (each-fits c ps (room .fit) k h) in
+            (f .whole, omega (arith, f .place, sound-facts c g s′ pumped-sound .lengths .heights));
+      }
+
+      -- the step from the pumped state, by a rule
+      module _ {rule : Rule} {k : ℕ} {made : List ℤ} (a : Advanced rule c g s′ k made) where
+        number-is : k ≡ pumpedStepBy rule c g ps .number s
+        unfolding pumpedNumber
+        number-is =
+            a .number
+            ∙ ap (stepNumberBy rule c g) (p .state fit)
+            ∙ sym (own-number (limitKept c (readState c s)) (inletsFit ps s) (stepNumberBy rule c g (pumped ps s)) inlets
+            (λ l. broken-limit rule c g (pumped ps s) (limit-pumped c ps (room .fit) s ∙ l)))
+
+        pub moved : {last : List ℤ} → ((k ≡ 0 → ⊥) → last ≡ s) → PumpedAdvanced rule c g ps s (record { number = k; added = flow .added; taken = flow .taken }) last made
+        moved undone = record {
+          number = number-is;
+          state = λ z. a .state z ∙ ap (nextStateBy rule c g) (p .state fit);
+          added = λ z. p .added fit;
+          taken = λ z. p .taken fit;
+          undone = undone;
+        }
