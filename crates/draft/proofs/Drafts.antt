@@ -1,4 +1,4 @@
--- What a sound site gives a step that works in a draft, and its answer: 0 and the next state, or 4, 5 or 7 and the next state as lent.
+-- What a sound site gives a step that works in a draft, and what it hands over: 0 and the next state, or 4, 5 or 7 and the next state as lent.
 use mathlib.Core.Path.{_≡_, _∙_, sym, ap}
 use mathlib.Core.List.{List, _++_}
 use Prim.Native.Nat.{ℕ, _≤_}
@@ -7,15 +7,14 @@ use lib.IntN.{ℤ}
 use lib.ListN.{length, take, drop}
 use lib.Seq.{length-take-le, take-at}
 use Rattle.rules.specs.declared.Card.{Card}
-use Rattle.rules.specs.Site.{stateLength, checkWith, ifDone}
-use Rattle.rules.specs.Step.{Rule, stepNumberBy, nextStateBy}
-use Rattle.rules.specs.Calls.{stepAnswerBy, stepNextBy}
-use Rattle.rules.specs.Contracts.{StepContractBy}
-use Rattle.laws.specs.Facts.{SoundWith, sound-facts, sound-check-with}
-use Rattle.laws.specs.Outcomes.{first-passed, if-same}
+use Rattle.rules.specs.Site.{stateLength, ifDone}
+use Rattle.rules.specs.Step.{Rule}
+use Rattle.rules.specs.Run.{Stepping, siteStepBy}
+use Rattle.laws.specs.Facts.{sound-facts}
+use Rattle.laws.specs.Outcomes.{if-same}
 use Rattle.lists.specs.Renewed.{renewed}
 use Rattle.advance.specs.Advance.{StepRoom, Advanced}
-use Rattle.draft.specs.Draft.{Drafting}
+use Rattle.draft.specs.Draft.{Drafting, Handed}
 
 module _ {c : Card} {g s t d n : List ℤ} (drafting : Drafting c g s t d n) where
   room-long : length n ≡ stateLength c
@@ -41,10 +40,11 @@ module _ {c : Card} {g s t d n : List ℤ} (drafting : Drafting c g s t d n) whe
       let whole : take (length n) (made ++ drop (length n) d) ≡ made = take-at made (drop (length n) d) (length n) (long ∙ draft-part) in
       record { number = a .number; state = λ z. whole ∙ a .state z }
 
--- ---- the answer
+-- ---- what is handed over: the number r of a step, and the list renewed by what it made, where that is the next state if r is 0
 
-pub answered : {rule : Rule} {c : Card} {g s n : List ℤ} → SoundWith c g s n → {r : ℕ} (list : List ℤ) {m : List ℤ} → m ≡ renewed r list n → Advanced rule c g s r (take (length n) list) → StepContractBy rule c g s n r m
-unfolding stepAnswerBy stepNextBy renewed
-answered {rule} {c} {g} {s} {n} site {r} list {m} is a =
-    let k : r ≡ stepAnswerBy rule c g s n = a .number ∙ sym (first-passed (checkWith c g s (length n)) (stepNumberBy rule c g s) (sound-check-with c g s n site)) in
-    record { answer = k; next-exit = is ∙ if-same r n (a .state) ∙ ap (λ (x : ℕ). ifDone x (nextStateBy rule c g s) n) k }
+pub handed : (step : Stepping) (s n : List ℤ) {r : ℕ} (made : List ℤ) {m : List ℤ} → m ≡ renewed r made n → r ≡ step .number s → (r ≡ 0 → take (length n) made ≡ step .next s) → Handed step s n r m
+unfolding renewed
+handed step s n {r} made is k next = record { answer = k; next-exit = is ∙ if-same r n next ∙ ap (λ (x : ℕ). ifDone x (step .next s) n) k }
+
+pub advanced-handed : {rule : Rule} {c : Card} {g s n : List ℤ} {r : ℕ} (made : List ℤ) {m : List ℤ} → m ≡ renewed r made n → Advanced rule c g s r (take (length n) made) → Handed (siteStepBy rule c g) s n r m
+advanced-handed {rule} {c} {g} {s} {n} made is a = handed (siteStepBy rule c g) s n made is (a .number) (a .state)

@@ -1,1 +1,2 @@
 pub mod Drafts
+pub mod PumpedDrafts

@@ -2,23 +2,27 @@
 use Prim.Native.Nat.{ℕ, suc, _≤_}
 use mathlib.Core.Path.{_≡_, sym, ap, ap₂, _∙_}
 use mathlib.Core.Bool.{true}
-use mathlib.Core.List.{List}
+use mathlib.Core.List.{List, []}
 use native.Mathlib.Nat.{mul-le-mul}
 use native.Mathlib.Omega.{arith}
 use lib.Dec.{leb, leb→le}
 use lib.IntN.{ℤ}
 use lib.ListN.{length}
 use Rattle.rules.specs.declared.Card.{Card}
-use Rattle.rules.specs.Site.{cells, stateLength, checkWith}
-use Rattle.rules.specs.Run.{run, runAfter}
+use Rattle.rules.specs.Site.{cells, stateLength, check}
+use Rattle.rules.specs.Step.{newVelocity}
+use Rattle.rules.specs.Run.{Stepping, run, runAfter}
+use Rattle.rules.specs.Pumps.{checkPumpedWith, reported, pumpedRunAfter}
 use Rattle.rules.specs.Sheet.{cardIn, groundIn, stateIn, readNumber, noCard}
 use Rattle.rules.specs.Calls.{runOutcome, readAnswer, readGroundList, readStateList}
 use Rattle.rules.specs.Play.{refusedLine, playedText, played, ownNumber, playNumber, printed}
 use Rattle.laws.specs.Tests.{to-T, and-left, and-right}
-use Rattle.laws.specs.Facts.{check-own}
+use Rattle.laws.specs.PumpChecks.{check-own, none-checked}
+use Rattle.laws.specs.PumpedSteps.{no-pumps}
 use Rattle.laws.specs.Outcomes.{both-passed, if-done, if-refused}
 use Rattle.laws.specs.Sheets.{Read, passed, read-facts, length-state-in}
 use Rattle.play_number.proofs.Numbers.{small}
+use Rattle.play.specs.Lent.{progressed}
 
 module _ (l : List ℕ) where
   -- ---- what is printed by it
@@ -79,11 +83,11 @@ module _ (l : List ℕ) where
       unfolding readStateList
       state-read = if-done (readNumber l (length g) (length s)) (stateIn l) s zero
 
-  -- and run, with a scratch list as long as the state
+  -- and run without pumps, with a scratch list as long as the state
   pub played-run : (c : Card) (g s scratch : List ℤ) → c ≡ cardIn l → g ≡ groundIn l → s ≡ stateIn l → length scratch ≡ stateLength (cardIn l)
-      → playedText c (runOutcome c g s scratch) ≡ played l
-  unfolding played runOutcome run
+      → playedText c (progressed (runOutcome c g s [] scratch)) ≡ played l
+  unfolding played runOutcome run pumpedRunAfter reported
   played-run c g s scratch p q r e =
       let long : length scratch ≡ length s = e ∙ sym (length-state-in l) ∙ ap length (sym r) in
-      let same = ap (checkWith c g s) long ∙ check-own c g s in
-      ap (λ (k : ℕ). playedText c (runAfter k c g s)) same ∙ cc
+      let same : checkPumpedWith c g s [] (length scratch) ≡ check c g s = ap (checkPumpedWith c g s []) long ∙ check-own c g s [] ∙ none-checked c g s in
+      ap₂ (λ (k : ℕ) (step : Stepping). playedText c (runAfter k step (c .steps) s)) same (no-pumps newVelocity c g) ∙ cc

@@ -5,8 +5,14 @@ use mathlib.Core.List.{List}
 use lib.IntN.{ℤ}
 use lib.ListN.{length}
 use Rattle.rules.specs.Site.{cells, stateLength}
+use Rattle.rules.specs.Run.{Outcome}
+use Rattle.rules.specs.Pumps.{progressOf, PumpedOutcome}
 use Rattle.rules.specs.Sheet.{cardIn}
 use Rattle.rules.specs.Play.{playNumber}
+
+-- how far a run came, and its end state: what is printed of it
+abbrev pub progressed : PumpedOutcome → Outcome
+progressed o = record { progress = progressOf (o .tally); state = o .state }
 
 -- lists that are cut to the header's size
 pub record Cut (sheet : List ℕ) (ground state scratch : List ℤ) (room : ℕ) : Type 0 where

@@ -1,5 +1,6 @@
 // What the sheet player prints, as a function from the input's bytes to the output's bytes.
 ghost use mathlib.Core.Path.{_≡_};
+ghost use mathlib.Core.List.{[]};
 ghost use Prim.Native.Nat.{_≤_};
 ghost use lib.ListN.{length};
 ghost use Rattle.rules.specs.Calls.{runOutcome};
@@ -7,10 +8,10 @@ ghost use Rattle.rules.specs.Play.{playedText, played, printed};
 ghost use Rattle.put.specs.Put.{Put};
 ghost use Rattle.print.specs.Appended.{Appended};
 ghost use Rattle.rows.specs.Rows.{Rows};
-ghost use Rattle.play.specs.Lent.{Cut, Uncut};
+ghost use Rattle.play.specs.Lent.{Cut, Uncut, progressed};
 use rules::Card;
 
-// Runs a site and prints its tally and its rows.
+// Runs a site without pumps, which a sheet has none of, and prints its tally and its rows. The empty list is lent from the ground's front.
 fn print_run(
     card: Card,
     ground: &[i32],
@@ -19,9 +20,9 @@ fn print_run(
     page: &mut [u8],
 ) -> usize
     requires { ⌜ Rows card (now state) 9298 (length (now page)) ⌝ }
-    ensures { λ r. ⌜ Appended (playedText card (runOutcome card (now (ground .entry)) (now (state .entry)) (now (scratch .entry)))) 0 r (now (page .entry)) (now (page .exit)) ⌝ }
+    ensures { λ r. ⌜ Appended (playedText card (progressed (runOutcome card (now (ground .entry)) (now (state .entry)) [] (now (scratch .entry))))) 0 r (now (page .entry)) (now (page .exit)) ⌝ }
 {
-    let tally = run::run(card, ground, state, scratch);
+    let tally = run::run(card, ground, state, &ground[..0], scratch);
     let end = print::tally_line(tally, page);
     rows::row_lines(card, state, page, end)
 }

@@ -4,6 +4,7 @@ ghost use Prim.Native.Nat.{_+_, _≤_, _<_};
 ghost use lib.IntN.{natAbs};
 ghost use lib.ListN.{length};
 ghost use Rattle.rules.specs.Text.{decimal, depthText};
+ghost use Rattle.rules.specs.Pumps.{progressOf};
 ghost use Rattle.rules.specs.Play.{labelled, refusedLine, tallyLine};
 ghost use Rattle.print.specs.Appended.{Appended};
 use rules::Tally;
@@ -67,7 +68,7 @@ fn size(top: i32) -> u32
 // Steps done, reason and top.
 pub fn tally_line(tally: Tally, out: &mut [u8]) -> usize
     requires { ⌜ 50 ≤ length (now out) ⌝ }
-    ensures text { λ r. ⌜ Appended (tallyLine tally) 0 r (now (out .entry)) (now (out .exit)) ⌝ }
+    ensures text { λ r. ⌜ Appended (tallyLine (progressOf tally)) 0 r (now (out .entry)) (now (out .exit)) ⌝ }
     ensures end { λ r. ⌜ r ≤ 50 ⌝ }
 {
     let steps = append_labelled(b"steps ", tally.steps, out, 0);

@@ -1,7 +1,7 @@
 // The first three checks of a site, with what a call asks besides: its card, the lengths of its lists, and every value in them.
 ghost use mathlib.Core.Path.{_≡_};
 ghost use mathlib.Core.Bool.{true};
-ghost use Rattle.rules.specs.Site.{cardFits, lengthsFit, checkAlso, check as Site·check, checkWith};
+ghost use Rattle.rules.specs.Site.{cardFits, lengthsFit, checkAlso, check as Site·check};
 ghost use Rattle.laws.specs.Facts.{Sized};
 ghost use Rattle.site.specs.Front.{frontAlso, valuesAlso};
 use rules::Card;
@@ -57,13 +57,6 @@ pub fn check_also(
         return number;
     }
     values_number(card, ground, state, three)
-}
-
-// Where one more list is lent, of `room` words, that is to be as long as the state.
-pub fn check_with(card: Card, ground: &[i32], state: &[i32], room: usize) -> u32
-    ensures { λ r. ⌜ r ≡ checkWith card (now (ground .entry)) (now (state .entry)) room ⌝ }
-{
-    check_also(card, ground, state, true, card::is_state(card, room), true)
 }
 
 // Nothing besides.

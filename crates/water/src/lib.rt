@@ -12,12 +12,18 @@ use rules::Wrote;
 // The depth text for callers in Rattle: the part that was written is handed back. Across C its length is what can be handed over, as water_depth_text does.
 pub use text::depth_text;
 
-// One step: its number, and the next state. Refused: the next state as lent.
+// One step: its number, and the next state. Refused: the next state as lent. Pumps are lent as words, cell and amount by turns; they act before the step.
 #[no_mangle]
-pub extern "C" fn water_step(card: Card, ground: &[i32], state: &[i32], next: &mut [i32]) -> u32
-    ensures { λ r. ⌜ StepContract card (now (ground .entry)) (now (state .entry)) (now (next .entry)) r (now (next .exit)) ⌝ }
+pub extern "C" fn water_step(
+    card: Card,
+    ground: &[i32],
+    state: &[i32],
+    pumps: &[i32],
+    next: &mut [i32],
+) -> u32
+    ensures { λ r. ⌜ StepContract card (now (ground .entry)) (now (state .entry)) (now (pumps .entry)) (now (next .entry)) r (now (next .exit)) ⌝ }
 {
-    step::step(card, ground, state, next, false)
+    step::step(card, ground, state, pumps, next, false)
 }
 
 // The same by the textbook engine, which keeps the pressure term and the ground term of a new velocity apart as the paper does. Every answer and every list is
@@ -27,24 +33,27 @@ pub extern "C" fn water_step_textbook(
     card: Card,
     ground: &[i32],
     state: &[i32],
+    pumps: &[i32],
     next: &mut [i32],
 ) -> u32
-    ensures { λ r. ⌜ TextbookContract card (now (ground .entry)) (now (state .entry)) (now (next .entry)) r (now (next .exit)) ⌝ }
+    ensures { λ r. ⌜ TextbookContract card (now (ground .entry)) (now (state .entry)) (now (pumps .entry)) (now (next .entry)) r (now (next .exit)) ⌝ }
 {
-    step::step(card, ground, state, next, true)
+    step::step(card, ground, state, pumps, next, true)
 }
 
-// A run: steps done, reason and top; the last accepted state in the place of the first, and the scratch list all zero. Reasons 1 to 3: both lists as lent.
+// A run: steps done, reason and top, and how much its pumps added and took; the last accepted state in the place of the first, and the scratch list all zero.
+// Reasons 1 to 3: both lists as lent.
 #[no_mangle]
 pub extern "C" fn water_run(
     card: Card,
     ground: &[i32],
     state: &mut [i32],
+    pumps: &[i32],
     scratch: &mut [i32],
 ) -> Tally
-    ensures { λ r. ⌜ RunContract card (now (ground .entry)) (now (state .entry)) (now (scratch .entry)) r (now (state .exit)) (now (scratch .exit)) ⌝ }
+    ensures { λ r. ⌜ RunContract card (now (ground .entry)) (now (state .entry)) (now (pumps .entry)) (now (scratch .entry)) r (now (state .exit)) (now (scratch .exit)) ⌝ }
 {
-    run::run(card, ground, state, scratch)
+    run::run(card, ground, state, pumps, scratch)
 }
 
 // The chambers of a register, lent as two lists of numbers, that lie in the window and under at least so much water: the number, the count, and the places

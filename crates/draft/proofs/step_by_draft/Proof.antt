@@ -1,7 +1,7 @@
 -- `step_by_draft`: the step is worked out in the fronts of tide and draft, and the next state is renewed only where the number is 0.
 use mathlib.Core.Path.{sym}
 use borrow.Author.Needs.{needs}
-use Rattle.draft.proofs.Drafts.{tide-part, draft-part, state-room, step-room, front, answered}
+use Rattle.draft.proofs.Drafts.{tide-part, draft-part, state-room, step-room, front, advanced-handed}
 use Rattle.draft.proofs.step_by_draft.Statement.{statement}
 use Rattle.draft.proofs.step_by_draft.Tie as tie
 
@@ -33,7 +33,7 @@ same-length-3 : tie.Need-same-length-3
 same-length-3 c = search needs
 
 returns : tie.Need-returns
-returns c = answered (search needs) _ (c .before .renew .ensures) (search front)
+returns c = advanced-handed _ (c .before .renew .ensures) (search front)
 
 pub step-by-draft-spec : {M : Type 1} → statement M
 step-by-draft-spec =

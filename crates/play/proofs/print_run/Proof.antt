@@ -3,12 +3,17 @@ use mathlib.Core.Path.{ap}
 use mathlib.Core.List.{List}
 use native.Mathlib.Omega.{arith}
 use lib.IntN.{ℤ}
+use Rattle.rules.specs.declared.Tally.{Tally}
+use Rattle.rules.specs.Pumps.{progressOf}
 use Rattle.rules.specs.Calls.{runTally, runState}
 use Rattle.rules.specs.Play.{tallyLine, rowLines, playedText}
 use Rattle.print.proofs.Laws.{appended-more, appended-same}
 use borrow.Author.Needs.{needs}
 use Rattle.play.proofs.print_run.Statement.{statement}
 use Rattle.play.proofs.print_run.Tie as tie
+
+slice-aggregate-run : tie.Need-slice-aggregate-run
+slice-aggregate-run c = search needs
 
 run-requires : tie.Need-run-requires
 run-requires c κs = search needs
@@ -31,13 +36,13 @@ same-length-3 c = search needs
 returns : tie.Need-returns
 unfolding playedText runTally runState
 returns c =
-    let s = c .before .before .before .before .before .before .before .before .before .before .before .before .before .before .before in
+    let s = c .before .before .before .before .before .before .before .before .before .before .before .before .before .before .before .before in
     let t = c .before .before .before .before .before .before .before .tally-line .ensures in
     let r = c .before .before .before .before .before .before .before .before .before .before .before .run .ensures in
     let space = s .pre .space in
     let far = t .1 in
     appended-more
-    (appended-same (ap tallyLine (r .answer)) (t .0))
+    (appended-same (ap (λ (x : Tally). tallyLine (progressOf x)) (r .answer)) (t .0))
     (appended-same (ap (λ (l : List ℤ). rowLines (s .args .card) l (s .args .card .rows)) (r .state-exit)) (c .before .before .row-lines .ensures))
     (omega arith)
 
@@ -45,6 +50,7 @@ pub print-run-spec : {M : Type 1} → statement M
 print-run-spec =
     tie.close
     (tie.spec
+    slice-aggregate-run
     run-requires
     tally-line-requires
     row-lines-requires

@@ -15,20 +15,20 @@ use Rattle.run.proofs.+run_within.{statement}
 use Rattle.run.proofs.+run_within.Tie.{close}
 
 -- how many words the room lacks: at a call of itself it lacks fewer
-abbrev lacking : Measures 3 kinds.ps ℕ
-lacking κs a = length (a .1 .1 .0 .now) - a .1 .1 .1 .1 .0
+abbrev lacking : Measures 4 kinds.ps ℕ
+lacking κs a = length (a .1 .1 .0 .now) - a .1 .1 .1 .1 .1 .0
 
-abbrev at : ℕ → In 3 kinds.ps
-at t = and 3 kinds.ps (is 3 kinds.ps lacking t) own.Pre
+abbrev at : ℕ → In 4 kinds.ps
+at t = and 4 kinds.ps (is 4 kinds.ps lacking t) own.Pre
 
 abbrev claims : ℕ → lts.Claims
-claims t = (and 3 kinds.ps (falls 3 kinds.ps _<_ lacking t) own.Pre, own.Post, small.Asked, small.Learnt, large.Asked, large.Learnt)
+claims t = (and 4 kinds.ps (falls 4 kinds.ps _<_ lacking t) own.Pre, own.Post, small.Asked, small.Learnt, large.Asked, large.Learnt)
 
 again : (t : ℕ) → lts.Need-run-within-requires (claims t) (at t) own.Post
 again t c κs =
     let start = c .before .before .before in
     let a = start .args in
-    (omega (arith, state-few (a .card) (a .ground .now) (a .state .now) (a .scratch .now) (start .pre .1)), search needs)
+    (omega (arith, state-few (a .card) (a .ground .now) (a .state .now) (a .pumps .now) (a .scratch .now) (start .pre .1)), search needs)
 
 pub +run-within-spec : {M : Type 1} → statement M
 +run-within-spec =

@@ -16,8 +16,8 @@ run-in-requires c κs =
     let start = c .before .before .before .before in
     let a = start .args in
     record {
-      site = start .pre;
-      tide-room = omega (arith, state-few (a .card) (a .ground .now) (a .state .now) (a .scratch .now) (start .pre), c .before .before .before .longest .ensures);
+      lent = start .pre;
+      tide-room = omega (arith, state-few (a .card) (a .ground .now) (a .state .now) (a .pumps .now) (a .scratch .now) (start .pre), c .before .before .before .longest .ensures);
     }
 
 same-length : tie.Need-same-length

@@ -39,8 +39,8 @@ same-length-3 c = search needs
 returns : tie.Need-returns
 returns c =
     let d = stepped (c .before) in
-    ran _ _ _ _ (start (d .before) .pre .site) (d .steps .ensures)
-    (c .before .clear .ensures ∙ ap (λ (n : ℕ). replicate n (pos 0)) (d .steps .kept .1 .1 .1 .0))
+    ran _ _ _ _ _ (start (d .before) .pre .lent) (d .steps .ensures)
+    (c .before .clear .ensures ∙ ap (λ (n : ℕ). replicate n (pos 0)) (d .steps .kept .1 .1 .1 .1 .0))
 
 pub run-in-spec : {M : Type 1} → statement M
 run-in-spec =

@@ -6,31 +6,35 @@ use lib.ListN.{length}
 use borrow.Author.Needs.{needs}
 use mir.Facts.{toZ-ofZ}
 use Rattle.rules.specs.Site.{stateLength}
-use Rattle.steps.proofs.Loop.{Running, few-steps, cells-held, peak-is, begins, stops, goes-on, ends}
+use Rattle.laws.specs.PumpChecks.{at-most-64}
+use Rattle.steps.proofs.Loop.{Running, few-steps, cells-held, peak-is, begins, stops, room-for, goes-on, ends}
 use Rattle.steps.proofs.steps.Statement.{statement}
 use Rattle.steps.proofs.steps.Tie as tie
 
 abbrev Inv-loop : tie.InvT-loop
-Inv-loop card ground state₀ scratch₀ tide₀ cells wanted tally₀ done₀ state scratch tide tally done =
-    Running card ground state₀ state tally done × (length scratch ≡ stateLength card) × (length tide ≡ stateLength card)
+Inv-loop card ground state₀ pumps scratch₀ tide₀ cells wanted found₀ tally₀ done₀ state scratch tide found tally done =
+    Running card ground state₀ pumps state tally done × (length scratch ≡ stateLength card) × (length tide ≡ stateLength card) × (length found ≡ 64)
 
 abbrev μ-loop : tie.MeasureT-loop
-μ-loop card ground state₀ scratch₀ tide₀ cells wanted tally₀ done₀ state scratch tide tally done =
+μ-loop card ground state₀ pumps scratch₀ tide₀ cells wanted found₀ tally₀ done₀ state scratch tide found tally done =
     wanted - done
 
 -- ---- the places, each from the one behind it: one more call changes one of these lines
 
 abbrev counted : tie.After-greatest Inv-loop μ-loop → tie.After-cells Inv-loop μ-loop
-counted c = c .before .before
+counted c = c .before .before .before
 
-abbrev entered : tie.After-advance Inv-loop μ-loop → tie.In-loop Inv-loop μ-loop
-entered c = c .before .before .before .before
+abbrev entered : tie.After-pumped-advance Inv-loop μ-loop → tie.In-loop Inv-loop μ-loop
+entered c = c .before .before .before .before .before
 
-abbrev refused : tie.Then1 Inv-loop μ-loop → tie.After-advance Inv-loop μ-loop
-refused c = c .before .before .before
+abbrev start : tie.In-loop Inv-loop μ-loop → tie.Start Inv-loop μ-loop
+start c = c .before .before .before .before .before .before
 
-abbrev accepted : tie.Else1 Inv-loop μ-loop → tie.After-advance Inv-loop μ-loop
-accepted c = c .before .before .before
+abbrev refused : tie.Then1 Inv-loop μ-loop → tie.After-pumped-advance Inv-loop μ-loop
+refused c = c .before .before .before .before .before .before
+
+abbrev accepted : tie.Else1 Inv-loop μ-loop → tie.After-pumped-advance Inv-loop μ-loop
+accepted c = c .before .before .before .before .before .before
 
 abbrev passed : tie.After-renew Inv-loop μ-loop → tie.Else1 Inv-loop μ-loop
 passed c = c .before .before .before
@@ -38,26 +42,39 @@ passed c = c .before .before .before
 abbrev renewed : tie.After-greatest-arg2 Inv-loop μ-loop → tie.After-renew Inv-loop μ-loop
 renewed c = c .before .before
 
-abbrev stepped : tie.After-greatest-arg2 Inv-loop μ-loop → tie.In-loop Inv-loop μ-loop
-stepped c = entered (accepted (passed (renewed c)))
+abbrev moved : tie.After-greatest-arg2 Inv-loop μ-loop → tie.After-pumped-advance Inv-loop μ-loop
+moved c = accepted (passed (renewed c))
 
 -- ---- before the loop
 
 cells-requires : tie.Need-cells-requires Inv-loop μ-loop
-cells-requires c κs = c .pre .sound .card
+cells-requires c κs = search needs
+
+no-heights-requires : tie.Need-no-heights-requires Inv-loop μ-loop
+no-heights-requires c κs = search needs
 
 greatest-requires : tie.Need-greatest-requires Inv-loop μ-loop
-greatest-requires c κs = omega (arith, c .before .cells .ensures .0, cells-held _ _ _ (c .before .before .pre .sound))
+greatest-requires c κs = omega (arith, c .before .before .cells .ensures .0, cells-held _ _ _ (c .before .before .before .pre .sound))
 
 loop-holds : tie.Need-loop-holds Inv-loop μ-loop
 loop-holds c =
-    let p = counted c .before .pre in
-    (begins _ _ _ _ (p .sound) (toZ-ofZ (record { sfits = c .greatest .ok }) ∙ peak-is _ _ _ (counted c .cells .ensures .0) (c .greatest .ensures)), p .scratch-long, p .tide-long)
+    let p = counted c .before .pre in (
+      begins _ _ _ _ _ (p .sound) (toZ-ofZ (record { sfits = c .greatest .ok }) ∙ peak-is _ _ _ (counted c .cells .ensures .0) (c .greatest .ensures)),
+      p .scratch-long,
+      p .tide-long,
+      c .before .before .no-heights .ensures,
+    )
 
 -- ---- one turn
 
-advance-requires : tie.Need-advance-requires Inv-loop μ-loop
-advance-requires c κs = let i = c .before .before .before .before .loop .inv in record { sound = i .0 .sound; tide = i .2; next = i .1 }
+slice-aggregate-pumped-advance : tie.Need-slice-aggregate-pumped-advance Inv-loop μ-loop
+slice-aggregate-pumped-advance c = search needs
+
+pumped-advance-requires : tie.Need-pumped-advance-requires Inv-loop μ-loop
+pumped-advance-requires c κs =
+    let i = c .before .before .before .before .before .loop .inv in
+    let p = c .before .before .before .before .before .before .before .before .before .before .pre in
+    record { sound = i .0 .sound; fit = p .pass .fit; few = at-most-64 (p .pass); room = omega (arith, i .3); tide = i .2; next = i .1 }
 
 same-length : tie.Need-same-length Inv-loop μ-loop
 same-length c = search needs
@@ -71,28 +88,28 @@ same-length-3 c = search needs
 returns : tie.Need-returns Inv-loop μ-loop
 returns c =
     let d = refused c in
-    stops (entered d .before .loop .inv .0) (entered d .loop-test .taken) _ (d .advance .ensures) (λ z. omega arith) _ (omega (arith, entered d .before .loop .inv .0 .counted))
+    let e = entered d in
+    stops (start e .pre .pass) (e .before .loop .inv .0) (e .loop-test .taken) _ (d .pumped-advance .ensures) (λ z. omega arith) _ (omega (arith, e .before .loop .inv .0 .counted))
 
 renew-requires : tie.Need-renew-requires Inv-loop μ-loop
 renew-requires c κs = search needs
 
--- the state holds the heights, and so would any list of its length
 greatest-requires-2 : tie.Need-greatest-requires-2 Inv-loop μ-loop
 greatest-requires-2 c κs =
-    let d = stepped c .before in
-    let i = d .loop .inv in
-    let tide-kept : length (accepted (passed (renewed c)) .advance .last .1 .1 .1 .0) ≡ stateLength (d .before .before .before .before .args .card) = accepted (passed (renewed c)) .advance .kept .1 .1 .1 .0 ∙ i .2 in
-    omega (arith, counted (d .before) .cells .ensures .0, cells-held _ _ _ (i .0 .sound), i .0 .long, tide-kept, renewed c .renew .kept .0)
+    let d = moved c in
+    let e = entered d in
+    let i = e .before .loop .inv in
+    omega (arith, e .before .before .before .before .before .cells .ensures .0, cells-held _ _ _ (i .0 .sound), i .0 .long, d .pumped-advance .kept, renewed c .renew .kept .0)
 
 accept-requires : tie.Need-accept-requires Inv-loop μ-loop
 accept-requires c κs =
-    let d = stepped (c .before) in
-    let i = d .before .loop .inv .0 in
-    omega (arith, i .counted, few-steps _ _ _ (i .sound), d .loop-test .taken)
+    let d = moved (c .before) in
+    let e = entered d in
+    room-for (start e .pre .pass) (e .before .loop .inv .0) (e .loop-test .taken) _ (d .pumped-advance .ensures) (passed (renewed (c .before)) .if1 .left)
 
 add-done : tie.Need-add-done Inv-loop μ-loop
 add-done c =
-    let i = stepped (c .before .before) .before .loop .inv .0 in
+    let i = entered (moved (c .before .before)) .before .loop .inv .0 in
     omega (arith, i .most, few-steps _ _ _ (i .sound))
 
 loop-less : tie.Need-loop-less Inv-loop μ-loop
@@ -102,16 +119,17 @@ loop-again : tie.Need-loop-again Inv-loop μ-loop
 loop-again c =
     let top = c .before .greatest2 in
     let new = renewed (c .before .before) in
-    let step = accepted (passed new) .advance in
-    let d = stepped (c .before .before) in
-    let i = d .before .loop .inv in
-    let scratch-long = step .kept .1 .1 .1 .1 .0 ∙ i .1 in (
-      goes-on (i .0) (d .loop-test .taken) _ (step .ensures) (passed new .if1 .left) scratch-long _ (new .renew .ensures) (search needs) _
-          (toZ-ofZ (record { sfits = top .ok }) ∙ peak-is _ _ _ (counted (d .before .before) .cells .ensures .0) (top .ensures))
+    let d = moved (c .before .before) in
+    let e = entered d in
+    let i = e .before .loop .inv in
+    let scratch-long : length (d .pumped-advance .last .1 .1 .1 .1 .1 .1 .0) ≡ stateLength (start e .args .card) = d .pumped-advance .kept .1 .1 .1 .1 .1 .1 .0 ∙ i .1 in (
+      goes-on (start e .pre .pass) (i .0) (e .loop-test .taken) _ (d .pumped-advance .ensures) (passed new .if1 .left) scratch-long (d .pumped-advance .kept .1 .1 .0) _ (new .renew .ensures) (search needs) _
+          (toZ-ofZ (record { sfits = top .ok }) ∙ peak-is _ _ _ (e .before .before .before .before .before .cells .ensures .0) (top .ensures))
           _
           (c .accept .ensures),
       scratch-long,
-      step .kept .1 .1 .1 .0 ∙ i .2,
+      d .pumped-advance .kept .1 .1 .1 .1 .1 .0 ∙ i .2,
+      d .pumped-advance .kept .1 .1 .1 .1 .0 ∙ i .3,
     )
 
 -- ---- behind the loop
@@ -126,7 +144,7 @@ same-length-6 : tie.Need-same-length-6 Inv-loop μ-loop
 same-length-6 c = search needs
 
 returns-2 : tie.Need-returns-2 Inv-loop μ-loop
-returns-2 c = ends (c .before .loop .inv .0) (c .loop-test .left)
+returns-2 c = ends (c .before .before .before .before .before .before .pre .pass) (c .before .loop .inv .0) (c .loop-test .left)
 
 pub steps-spec : {M : Type 1} → statement M
 steps-spec =
@@ -135,9 +153,11 @@ steps-spec =
     Inv-loop
     μ-loop
     cells-requires
+    no-heights-requires
     greatest-requires
     loop-holds
-    advance-requires
+    slice-aggregate-pumped-advance
+    pumped-advance-requires
     same-length
     same-length-2
     same-length-3
