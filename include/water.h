@@ -4,10 +4,10 @@
  * reaches as many elements as the length behind it says (a length of 0 allows any pointer, NULL too), and that a list that a
  * call fills overlaps no other list of the same call. No call keeps state, allocates or fails in another way than by its number.
  *
- * Numbers: 0 done, 1 card out of range, 2 a list has the wrong length (or over 1,000 chambers), 3 a value out of range,
- * a wall velocity not 0 or a window edge not finite, 4 a cell breaks the step limit, 5 a new height exceeds 50,000,000,
- * 7 a new velocity is out of range, 8 the lent room is too short, 9 not a sheet of version 1. 6 is unused: no site gives it.
- * The lowest number that applies is given; the sheet reader looks for 9 first.
+ * Numbers: 0 done, 1 card out of range (or over 64 pumps), 2 a list has the wrong length (or over 1,000 chambers), 3 a value out of
+ * range, a wall velocity not 0, a pump's cell that the site has not or a window edge not finite, 4 a cell breaks the step limit, 5 a new
+ * height, or one that an inlet makes, exceeds 50,000,000, 7 a new velocity is out of range, 8 the lent room is too short, 9 not a sheet
+ * of version 1. 6 is unused: no site gives it. The lowest number that applies is given; the sheet reader looks for 9 first.
  *
  * Step limit: dt*(we*dy + sn*dx) <= 1000*dx*dy in every cell, dry ones too, we being its west velocity if that points west plus
  * its east one if that points east, each without its sign, and sn the same for south and north: what leaves a cell in one step is
@@ -20,10 +20,21 @@
  * Lists: rows run south to north, and within a row west to east. Ground is columns*rows words. A state is columns*rows heights,
  * then (columns+1)*rows eastward velocities, then columns*(rows+1) northward velocities. Micrometres and micrometres a second.
  *
- * Volume: no water is made and none is lost. The sum of a state's columns*rows heights is the same after a step with 0, by either engine,
- * and after water_run whatever its reason. Of a state in range it is at most 819,200,000,000: add it up in 64 bits. Times dx and times
- * dy, each widened first (dx*dy alone takes up to 49 bits), it is the volume in cubic micrometres (10^15 to the litre), up to 89 bits: a
- * 128-bit integer where the compiler has one. To compare two states of one site the sums are enough.
+ * Pumps: a step and a run take 0 to 64 of them, each a cell and an amount of -1,000,000 to 1,000,000 um a step. Below 0 it takes water
+ * away, no more than is there; above 0 it is an inlet; 0 does nothing. The cell is its place in the ground's list, row*columns + column.
+ * They act one after the other in the order of their list, several on one cell too, before each step and as part of it: a refused step
+ * adds and takes nothing. They are lent as one list of words, cell and amount by turns, so that an array of WaterPump can be lent as it
+ * is, (const int32_t *)pumps and 2*count; a length of 0 is no pumps.
+ * Refused with 1: over 64 pumps (length/2, rounded down). 2: an odd length. 3: a cell below 0, or columns*rows or more; an amount out of
+ * its range. 5: an inlet takes its cell past 50,000,000 at its turn in the list, even if a later pump would take it back; a broken step
+ * limit, which is of velocities alone, is 4 before that. Where the inlets fit, the number is that of the step from the pumped state.
+ *
+ * Volume: no water is made and none is lost but by pumps. The sum of a state's columns*rows heights after a step with 0, by either engine,
+ * and after water_run, whatever its reason, is the sum before, plus what was added, less what was taken: without pumps it is the same. A
+ * run's tally has both totals, in micrometres of height, over the steps that were accepted, each at most 640,000,000,000; a step does not
+ * report them, but a run of one step is that step and does. The sum of a state in range is at most 819,200,000,000: add it up in 64 bits.
+ * Times dx and times dy, each widened first (dx*dy alone takes up to 49 bits), it is the volume in cubic micrometres (10^15 to the
+ * litre), up to 89 bits: a 128-bit integer where the compiler has one. To compare two states of one site the sums are enough.
  *
  * Stack that a call takes, in bytes, where the archive is rt's for x86-64. A thread takes some for itself besides, and so does a
  * loader that binds memcpy and memset only when they are first called.
@@ -31,7 +42,7 @@
  *                          any input   small site   refused
  *     water_step             398,000       27,000     1,000
  *     water_step_textbook    398,000       27,000     1,000
- *     water_run              200,000       15,000     1,000
+ *     water_run              201,000       15,000     1,000
  *     water_search            38,000       38,000    38,000
  *     water_search_lists       6,000        6,000     6,000
  *     water_read_sheet         1,000        1,000     1,000
@@ -40,7 +51,8 @@
  *
  * Small is a site whose state has at most 3,136 words, as with 32 columns and 32 rows; where it has at most 800, as with 16 and 16, a
  * step by either engine takes 9,000. Refused means with 1, 2 or 3, and by the sheet reader with 9 too: the 4, 5 and 7 of a step or a run
- * take what the site takes.
+ * take what the site takes. A step is named there without pumps: with pumps it takes 596,000, on a small site 40,000. A run takes no more
+ * with pumps than without. A thread that has 640,000 bytes does for every call, whatever the input.
  */
 #ifndef WATER_H
 #define WATER_H
@@ -57,10 +69,17 @@ typedef struct {
     uint32_t columns, rows, dx, dy, dt, steps;
 } WaterCard;
 
-/* What a run answers: steps done, the reason it stopped (0 if all were done), the greatest height met. */
+/* A pump: its cell, by its place in the ground's list, and its amount, -1,000,000 to 1,000,000 um a step; above 0 it is an inlet. */
+typedef struct {
+    int32_t cell, amount;
+} WaterPump;
+
+/* What a run answers: steps done, the reason it stopped (0 if all were done), the greatest height met, and what its pumps added and took
+ * over the steps done, in um of height. */
 typedef struct {
     uint32_t steps, reason;
     int32_t top;
+    uint64_t added, taken;
 } WaterTally;
 
 /* The four edges of a window in micrometres, as the finger drew them. */
@@ -89,11 +108,12 @@ typedef struct {
     uint32_t number, size;
 } WaterWrote;
 
-/* One step: reads ground and state and fills next, a list of the state's length.
+/* One step: reads ground, state and pumps and fills next, a list of the state's length.
  * Refused with 1 to 5 or 7: next is as lent. */
 uint32_t water_step(WaterCard card,
                     const int32_t *ground, size_t ground_length,
                     const int32_t *state, size_t state_length,
+                    const int32_t *pumps, size_t pumps_length,
                     int32_t *next, size_t next_length);
 
 /* The same step by the textbook engine, for those who read beside the paper (of Herbin, Latche, Nasseri and Therme): its pressure and its
@@ -107,14 +127,17 @@ uint32_t water_step(WaterCard card,
 uint32_t water_step_textbook(WaterCard card,
                              const int32_t *ground, size_t ground_length,
                              const int32_t *state, size_t state_length,
+                             const int32_t *pumps, size_t pumps_length,
                              int32_t *next, size_t next_length);
 
-/* As many steps as the card wants, on state itself; scratch is a list of the state's length.
- * Reasons 1 to 3: steps 0, top 0, both lists as lent. Otherwise, whatever the reason (0, 4, 5 or 7), state holds the last accepted
- * state, scratch is all zero, and top is the greatest height in the starting state and each accepted one. */
+/* As many steps as the card wants, on state itself, the pumps acting before each; scratch is a list of the state's length.
+ * Reasons 1 to 3: steps, top, added and taken 0, both lists as lent. Otherwise, whatever the reason (0, 4, 5 or 7), state holds the last
+ * accepted state, scratch is all zero, top is the greatest height in the starting state and each accepted one (pumped heights before a
+ * step do not count), and the sum of the heights plus taken is the starting sum plus added. */
 WaterTally water_run(WaterCard card,
                      const int32_t *ground, size_t ground_length,
                      int32_t *state, size_t state_length,
+                     const int32_t *pumps, size_t pumps_length,
                      int32_t *scratch, size_t scratch_length);
 
 /* The chambers inside the window whose cell is at least depth deep: their places in the register from 0, rising, each once.

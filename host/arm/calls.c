@@ -1,17 +1,17 @@
 /* include/water.h's calls as this machine hands records over, over flat.c's. */
 #include "flat.h"
 
-uint32_t water_step(WaterCard card, GROUND, STATE, LIST(int32_t, next)) {
-    return flat_step(&card, LENT(ground), LENT(state), LENT(next));
+uint32_t water_step(WaterCard card, GROUND, STATE, PUMPS, LIST(int32_t, next)) {
+    return flat_step(&card, LENT(ground), LENT(state), LENT(pumps), LENT(next));
 }
 
-uint32_t water_step_textbook(WaterCard card, GROUND, STATE, LIST(int32_t, next)) {
-    return flat_step_textbook(&card, LENT(ground), LENT(state), LENT(next));
+uint32_t water_step_textbook(WaterCard card, GROUND, STATE, PUMPS, LIST(int32_t, next)) {
+    return flat_step_textbook(&card, LENT(ground), LENT(state), LENT(pumps), LENT(next));
 }
 
-WaterTally water_run(WaterCard card, GROUND, LIST(int32_t, state), LIST(int32_t, scratch)) {
+WaterTally water_run(WaterCard card, GROUND, LIST(int32_t, state), PUMPS, LIST(int32_t, scratch)) {
     WaterTally tally;
-    flat_run(&card, LENT(ground), LENT(state), LENT(scratch), &tally);
+    flat_run(&card, LENT(ground), LENT(state), LENT(pumps), LENT(scratch), &tally);
     return tally;
 }
 

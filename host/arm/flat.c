@@ -1,16 +1,16 @@
 /* Compiled for x86-64 to LLVM's language, in which the calls below hand records over as the library's own module takes them. */
 #include "flat.h"
 
-uint32_t flat_step(const WaterCard *card, GROUND, STATE, LIST(int32_t, next)) {
-    return water_step(*card, LENT(ground), LENT(state), LENT(next));
+uint32_t flat_step(const WaterCard *card, GROUND, STATE, PUMPS, LIST(int32_t, next)) {
+    return water_step(*card, LENT(ground), LENT(state), LENT(pumps), LENT(next));
 }
 
-uint32_t flat_step_textbook(const WaterCard *card, GROUND, STATE, LIST(int32_t, next)) {
-    return water_step_textbook(*card, LENT(ground), LENT(state), LENT(next));
+uint32_t flat_step_textbook(const WaterCard *card, GROUND, STATE, PUMPS, LIST(int32_t, next)) {
+    return water_step_textbook(*card, LENT(ground), LENT(state), LENT(pumps), LENT(next));
 }
 
-void flat_run(const WaterCard *card, GROUND, LIST(int32_t, state), LIST(int32_t, scratch), WaterTally *tally) {
-    *tally = water_run(*card, LENT(ground), LENT(state), LENT(scratch));
+void flat_run(const WaterCard *card, GROUND, LIST(int32_t, state), PUMPS, LIST(int32_t, scratch), WaterTally *tally) {
+    *tally = water_run(*card, LENT(ground), LENT(state), LENT(pumps), LENT(scratch));
 }
 
 void flat_search(const WaterCard *card, GROUND, STATE, LIST(const WaterChamber, chambers), const WaterWindow *window,

@@ -5,10 +5,11 @@
 #define LENT(name) name, name##_length
 #define GROUND LIST(const int32_t, ground)
 #define STATE LIST(const int32_t, state)
+#define PUMPS LIST(const int32_t, pumps)
 
-uint32_t flat_step(const WaterCard *card, GROUND, STATE, LIST(int32_t, next));
-uint32_t flat_step_textbook(const WaterCard *card, GROUND, STATE, LIST(int32_t, next));
-void flat_run(const WaterCard *card, GROUND, LIST(int32_t, state), LIST(int32_t, scratch), WaterTally *tally);
+uint32_t flat_step(const WaterCard *card, GROUND, STATE, PUMPS, LIST(int32_t, next));
+uint32_t flat_step_textbook(const WaterCard *card, GROUND, STATE, PUMPS, LIST(int32_t, next));
+void flat_run(const WaterCard *card, GROUND, LIST(int32_t, state), PUMPS, LIST(int32_t, scratch), WaterTally *tally);
 void flat_search(const WaterCard *card, GROUND, STATE, LIST(const WaterChamber, chambers), const WaterWindow *window,
                  int32_t depth, LIST(uint32_t, found), WaterFound *answer);
 void flat_search_lists(const WaterCard *card, GROUND, STATE, LIST(const int64_t, xs), LIST(const int64_t, ys),

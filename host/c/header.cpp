@@ -7,7 +7,14 @@ int main() {
     const int32_t ground[1] = {0};
     const int32_t state[5] = {7, 0, 0, 0, 0};
     int32_t next[5] = {}, textbook[5] = {};
-    const bool first = water_step(card, ground, 1, state, 5, next, 5) == 0 && next[0] == 7;
-    const bool second = water_step_textbook(card, ground, 1, state, 5, textbook, 5) == 0 && textbook[0] == 7;
-    return first && second ? 0 : 1;
+    const bool first = water_step(card, ground, 1, state, 5, nullptr, 0, next, 5) == 0 && next[0] == 7;
+    const bool second = water_step_textbook(card, ground, 1, state, 5, nullptr, 0, textbook, 5) == 0 && textbook[0] == 7;
+    // an array of records, lent as words
+    const WaterPump pumps[2] = {{0, 20}, {0, -5}};
+    const int32_t *words = reinterpret_cast<const int32_t *>(pumps);
+    const bool third = water_step(card, ground, 1, state, 5, words, 4, next, 5) == 0 && next[0] == 22;
+    int32_t run[5] = {7, 0, 0, 0, 0}, scratch[5] = {};
+    const WaterTally tally = water_run(card, ground, 1, run, 5, words, 4, scratch, 5);
+    const bool fourth = tally.steps == 1 && tally.reason == 0 && tally.top == 22 && tally.added == 20 && tally.taken == 5;
+    return first && second && third && fourth ? 0 : 1;
 }

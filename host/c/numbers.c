@@ -21,10 +21,15 @@ PLACE(WaterCard, dx, 8);
 PLACE(WaterCard, dy, 12);
 PLACE(WaterCard, dt, 16);
 PLACE(WaterCard, steps, 20);
-SIZE(WaterTally, 12);
+SIZE(WaterPump, 8);
+PLACE(WaterPump, cell, 0);
+PLACE(WaterPump, amount, 4);
+SIZE(WaterTally, 32);
 PLACE(WaterTally, steps, 0);
 PLACE(WaterTally, reason, 4);
 PLACE(WaterTally, top, 8);
+PLACE(WaterTally, added, 16);
+PLACE(WaterTally, taken, 24);
 SIZE(WaterWindow, 32);
 PLACE(WaterWindow, west, 0);
 PLACE(WaterWindow, south, 8);
@@ -130,13 +135,18 @@ static Volume volume(WaterCard site, const int32_t *state) {
 
 /* ---- the numbers */
 
-/* A step by both engines, on next and on a copy of it: one number, and the same words. */
-static uint32_t step_by_both(WaterCard site, const int32_t *ground, size_t cells, const int32_t *state, size_t words, int32_t *next) {
+/* A step by both engines, on next and on a copy of it: one number, and the same words. So many words of pumps are lent. */
+static uint32_t pumped_by_both(WaterCard site, const int32_t *ground, size_t cells, const int32_t *state, size_t words,
+                               const int32_t *pumps, size_t pumps_length, int32_t *next) {
     int32_t *textbook = lend(next, words * sizeof *next);
-    uint32_t number = water_step(site, ground, cells, state, words, next, words);
-    EXPECT(water_step_textbook(site, ground, cells, state, words, textbook, words) == number);
+    uint32_t number = water_step(site, ground, cells, state, words, pumps, pumps_length, next, words);
+    EXPECT(water_step_textbook(site, ground, cells, state, words, pumps, pumps_length, textbook, words) == number);
     EXPECT(memcmp(textbook, next, words * sizeof *next) == 0);
     return number;
+}
+
+static uint32_t step_by_both(WaterCard site, const int32_t *ground, size_t cells, const int32_t *state, size_t words, int32_t *next) {
+    return pumped_by_both(site, ground, cells, state, words, NULL, 0, next);
 }
 
 static const WaterCard card = {2, 1, 1000000, 1000000, 100, 0};
@@ -228,10 +238,126 @@ static void run(uint32_t columns, uint32_t wanted, uint32_t reason) {
     const WaterCard one = {columns, 1, 1000000, 1000000, 100, wanted};
     int32_t *state = LEND(seven);
     int32_t *scratch = LEND(fives);
-    WaterTally tally = water_run(one, LEND(zeros), 1, state, 5, scratch, 5);
+    WaterTally tally = water_run(one, LEND(zeros), 1, state, 5, NULL, 0, scratch, 5);
     EXPECT(tally.reason == reason && tally.steps == (reason ? 0 : wanted) && tally.top == (reason ? 0 : 7));
+    EXPECT(tally.added == 0 && tally.taken == 0);
     EXPECT(SAME(state, seven));
     EXPECT(reason ? SAME(scratch, fives) : SAME(scratch, zeros));
+    hand_back();
+}
+
+/* ---- pumps and inlets, document 02, [10] */
+
+/* Two still cells, so wide and for so short a time that the heights after a step are the pumped ones. */
+static const WaterCard wide = {2, 1, 20000000, 20000000, 1, 1};
+
+/* The pumps of an array of records, so many words of it, on two cells of these heights: a step by both engines and a run of one step, which
+ * give one number, leave the same state and balance. */
+static uint32_t pumped(const WaterPump *pumps, size_t words, const int32_t heights[2], int32_t after[2], WaterTally *tally) {
+    static const int32_t as_lent[9] = {-7, -7, -7, -7, -7, -7, -7, -7, -7}, zeros[9] = {0};
+    const int32_t state[9] = {heights[0], heights[1]};
+    const int32_t *g = LEND(flat), *s = LEND(state), *p = lend(pumps, words * sizeof(int32_t));
+    int32_t *n = LEND(as_lent), *run = LEND(state), *scratch = LEND(as_lent);
+    uint32_t number = pumped_by_both(wide, g, 2, s, 9, p, words, n);
+    *tally = water_run(wide, g, 2, run, 9, p, words, scratch, 9);
+    EXPECT(tally->reason == number && tally->steps == (number == 0));
+    EXPECT(memcmp(s, state, sizeof state) == 0 && memcmp(p, pumps, words * sizeof(int32_t)) == 0 && SAME(g, flat));
+    EXPECT(number == 0 ? memcmp(n, run, sizeof state) == 0 : SAME(n, as_lent) && SAME(run, state));
+    EXPECT(number >= 1 && number <= 3 ? SAME(scratch, as_lent) && tally->top == 0 : SAME(scratch, zeros));
+    EXPECT(number == 0 || (tally->added == 0 && tally->taken == 0));
+    EXPECT((uint64_t)sum_of_heights(wide, run) + tally->taken == (uint64_t)sum_of_heights(wide, state) + tally->added);
+    memcpy(after, run, 2 * sizeof *after);
+    hand_back();
+    return number;
+}
+
+static int makes(const WaterPump *pumps, size_t count, int32_t west, int32_t east, int32_t new_west, int32_t new_east, uint64_t added,
+                 uint64_t taken) {
+    const int32_t heights[2] = {west, east};
+    int32_t after[2];
+    WaterTally tally;
+    uint32_t number = pumped(pumps, 2 * count, heights, after, &tally);
+    return number == 0 && after[0] == new_west && after[1] == new_east && tally.added == added && tally.taken == taken;
+}
+
+static uint32_t refused(const WaterPump *pumps, size_t words, int32_t west, int32_t east) {
+    const int32_t heights[2] = {west, east};
+    int32_t after[2];
+    WaterTally tally;
+    return pumped(pumps, words, heights, after, &tally);
+}
+
+static void pumps_and_inlets(void) {
+    const WaterPump inlet[1] = {{1, 300}}, pump[1] = {{1, -300}}, none[1] = {{1, 0}};
+    const WaterPump in_out[2] = {{0, 300000}, {0, -800000}}, out_in[2] = {{0, -800000}, {0, 300000}};
+    EXPECT(makes(inlet, 1, 5, 7, 5, 307, 300, 0));
+    EXPECT(makes(pump, 1, 5, 301, 5, 1, 0, 300));
+    EXPECT(makes(pump, 1, 5, 299, 5, 0, 0, 299));
+    /* on a dry cell; an amount of 0; no pumps at all */
+    EXPECT(makes(pump, 1, 5, 0, 5, 0, 0, 0));
+    EXPECT(makes(none, 1, 5, 7, 5, 7, 0, 0));
+    EXPECT(makes(inlet, 0, 5, 7, 5, 7, 0, 0));
+    /* two on one cell, in both orders */
+    EXPECT(makes(in_out, 2, 500000, 9, 0, 9, 300000, 800000));
+    EXPECT(makes(out_in, 2, 500000, 9, 300000, 9, 300000, 500000));
+    EXPECT(makes(in_out, 2, 800000, 9, 300000, 9, 300000, 800000) && makes(out_in, 2, 800000, 9, 300000, 9, 300000, 800000));
+}
+
+static void pumps_at_the_top(void) {
+    const WaterPump inlet[1] = {{1, 1000000}}, taken_back[2] = {{1, 1000000}, {1, -1000000}}, made_room[2] = {{1, -1}, {1, 1000000}};
+    EXPECT(makes(inlet, 1, 5, 49000000, 5, 50000000, 1000000, 0));
+    EXPECT(refused(inlet, 2, 5, 49000001) == 5);
+    EXPECT(refused(taken_back, 4, 5, 49000001) == 5);
+    EXPECT(makes(taken_back, 2, 5, 49000000, 5, 49000000, 1000000, 1000000));
+    EXPECT(makes(made_room, 2, 5, 49000001, 5, 50000000, 1000000, 1));
+    /* a broken step limit comes before it */
+    static const int32_t blank[9] = {-7};
+    const int32_t slow[9] = {0, 50000000, 0, 10000000}, fast[9] = {0, 50000000, 0, 10000001};
+    int32_t *next = LEND(blank);
+    EXPECT(pumped_by_both(card, LEND(flat), 2, LEND(slow), 9, lend(inlet, sizeof inlet), 2, next) == 5 && SAME(next, blank));
+    EXPECT(pumped_by_both(card, LEND(flat), 2, LEND(fast), 9, lend(inlet, sizeof inlet), 2, next) == 4 && SAME(next, blank));
+    hand_back();
+}
+
+static void refused_pumps(void) {
+    WaterPump pumps[66];
+    for (int k = 0; k < 66; k++) {
+        pumps[k].cell = k % 2;
+        pumps[k].amount = 1;
+    }
+    EXPECT(makes(pumps, 64, 0, 0, 32, 32, 64, 0));
+    EXPECT(refused(pumps, 130, 0, 0) == 1);
+    EXPECT(refused(pumps, 131, 0, 0) == 1);
+    /* 64 pumps and a word left over; one word; an odd length in between */
+    EXPECT(refused(pumps, 129, 0, 0) == 2);
+    EXPECT(refused(pumps, 1, 0, 0) == 2);
+    EXPECT(refused(pumps, 127, 0, 0) == 2);
+    static const int32_t cells[] = {-1, 2, 3, INT32_MIN, INT32_MAX}, amounts[] = {-1000001, 1000001, INT32_MIN, INT32_MAX};
+    for (size_t k = 0; k < sizeof cells / sizeof *cells; k++) {
+        WaterPump wrong[2] = {{0, 1}, {cells[k], 0}};
+        EXPECT(refused(wrong, 4, 0, 0) == 3);
+    }
+    for (size_t k = 0; k < sizeof amounts / sizeof *amounts; k++) {
+        WaterPump wrong[2] = {{0, 1}, {1, amounts[k]}};
+        EXPECT(refused(wrong, 4, 0, 0) == 3);
+    }
+    const WaterPump ends[2] = {{0, -1000000}, {1, 1000000}};
+    EXPECT(makes(ends, 2, 3000000, 0, 2000000, 1000000, 1000000, 1000000));
+}
+
+/* A run of many steps balances, and its totals are over the accepted steps. */
+static void pumped_run(void) {
+    static const int32_t start[9] = {49000000, 200000}, seven[9] = {7, 7, 7, 7, 7, 7, 7, 7, 7};
+    static const int32_t cliff[2] = {-49000000, 1000000};
+    static const WaterCard many = {2, 1, 20000000, 20000000, 1, 10000};
+    const WaterPump pumps[3] = {{0, 10000}, {1, -3000}, {0, -1000}};
+    int32_t *state = LEND(start), *scratch = LEND(seven);
+    WaterTally tally = water_run(many, LEND(cliff), 2, state, 9, (const int32_t *)lend(pumps, sizeof pumps), 6, scratch, 9);
+    EXPECT(tally.reason == 5 && tally.steps > 66 && tally.steps < 10000 && scratch[0] == 0);
+    EXPECT(tally.added == 10000 * (uint64_t)tally.steps && tally.taken >= 1000 * (uint64_t)tally.steps + 100000);
+    EXPECT(tally.taken < 4000 * (uint64_t)tally.steps);
+    EXPECT((uint64_t)sum_of_heights(many, state) + tally.taken == 49200000 + tally.added);
+    EXPECT(volume(many, state) + (Volume)tally.taken * many.dx * many.dy == volume(many, start) + (Volume)tally.added * many.dx * many.dy);
     hand_back();
 }
 
@@ -339,7 +465,18 @@ static void largest(void) {
     uint32_t *found = LEND(places);
     EXPECT(step_by_both(big, g, CELLS, s, WORDS, n) == 0);
     EXPECT(volume(big, n) == volume(big, s));
-    WaterTally tally = water_run(big, g, CELLS, s, WORDS, n, WORDS);
+    WaterPump pumps[64];
+    for (int k = 0; k < 64; k++) {
+        pumps[k].cell = CELLS - 1 - 255 * k;
+        pumps[k].amount = k % 2 ? -2000 : 1000;
+    }
+    const int32_t *p = LEND(pumps);
+    EXPECT(pumped_by_both(big, g, CELLS, s, WORDS, p, 128, n) == 0 && sum_of_heights(big, n) == sum_of_heights(big, s) - 32000);
+    int32_t *pumped_state = LEND(state);
+    WaterTally moved = water_run(big, g, CELLS, pumped_state, WORDS, p, 128, n, WORDS);
+    EXPECT(moved.steps == 5 && moved.reason == 0 && moved.added == 160000 && moved.taken == 320000);
+    EXPECT(sum_of_heights(big, pumped_state) == sum_of_heights(big, s) - 160000);
+    WaterTally tally = water_run(big, g, CELLS, s, WORDS, NULL, 0, n, WORDS);
     EXPECT(volume(big, s) == volume(big, state) && volume(big, s) / 1000000 / 1000000 == (Volume)CELLS * 1000000 + (Volume)CELLS * (CELLS - 1) / 2);
     EXPECT(tally.steps == 5 && tally.reason == 0 && n[0] == 0 && n[WORDS - 1] == 0);
     WaterFound answer = water_search(big, g, CELLS, s, WORDS, c, 1000, all, 0, found, 1000);
@@ -360,10 +497,10 @@ static void no_pointers(void) {
     static const WaterCard none = {0, 0, 0, 0, 0, 0};
     static const int32_t state[9] = {2000000, 1000000, 0, 0, 0, 0, 0, 0, 0};
     const WaterWindow all = {-1, -1, 3e6, 3e6};
-    EXPECT(water_step(card, NULL, 0, NULL, 0, NULL, 0) == 2);
-    EXPECT(water_step_textbook(card, NULL, 0, NULL, 0, NULL, 0) == 2);
-    WaterTally tally = water_run(card, NULL, 0, NULL, 0, NULL, 0);
-    EXPECT(tally.steps == 0 && tally.reason == 2 && tally.top == 0);
+    EXPECT(water_step(card, NULL, 0, NULL, 0, NULL, 0, NULL, 0) == 2);
+    EXPECT(water_step_textbook(card, NULL, 0, NULL, 0, NULL, 0, NULL, 0) == 2);
+    WaterTally tally = water_run(card, NULL, 0, NULL, 0, NULL, 0, NULL, 0);
+    EXPECT(tally.steps == 0 && tally.reason == 2 && tally.top == 0 && tally.added == 0 && tally.taken == 0);
     WaterHeard heard = water_read_sheet(NULL, 0, NULL, 0, NULL, 0);
     EXPECT(heard.number == 9 && memcmp(&heard.card, &none, sizeof none) == 0);
     WaterWrote wrote = water_write_sheet(card, NULL, 0, NULL, 0, NULL, 0);
@@ -391,6 +528,10 @@ int main(void) {
         run(1, 10000, 0);
         run(1, 10001, 1);
         run(129, 10000, 1);
+        pumps_and_inlets();
+        pumps_at_the_top();
+        refused_pumps();
+        pumped_run();
         searches(0);
         searches(1);
         sheet();

@@ -1,6 +1,10 @@
 //! The library's calls on slices: typed refusals in the place of numbers, nothing else added.
 //!
 //! Each takes any input at all. Where one is refused, every lent list is as it was, but for a run that is stopped on its way.
+//!
+//! A step and a run take `pumps`, a list of words: cell and amount by turns, the cell being its place in the ground's list, row·columns +
+//! column, and the amount -1,000,000 to 1,000,000 micrometres a step, below 0 taken away and above 0 let in. An empty list is no pumps.
+//! [`crate::Site`] takes them by column and row ([`crate::Pump`]).
 
 use crate::raw::{self, Card, Chamber, Window};
 use crate::refusal::Refusal;
@@ -12,8 +16,12 @@ pub struct Tally {
     pub steps: u32,
     /// why the run stopped before it had done all steps; none if it did them all
     pub reason: Option<Refusal>,
-    /// the greatest height in the starting state and each accepted one
+    /// the greatest height in the starting state and each accepted one; pumped heights before a step do not count
     pub top: i32,
+    /// what inlets added over the steps done, in micrometres of height ([`Card::volume`] makes a volume of it)
+    pub added: u64,
+    /// what pumps took over the steps done: the sum of all heights at the end plus `taken` is the sum at the start plus `added`
+    pub taken: u64,
 }
 
 fn done<T>(number: u32, needed: usize, answer: T) -> Result<T, Refusal> {
@@ -23,27 +31,33 @@ fn done<T>(number: u32, needed: usize, answer: T) -> Result<T, Refusal> {
     }
 }
 
-/// One step: fills `next` from `ground` and `state`. A cell that is dry after it and whose ground is at or above the new surface of the cell
-/// beside it is a dry bank: the face between them gets the velocity 0.
+/// One step: fills `next` from `ground`, `state` and `pumps`, which act in the order of their list before it and as part of it. A cell that
+/// is dry after it and whose ground is at or above the new surface of the cell beside it is a dry bank: the face between them gets the
+/// velocity 0.
 ///
 /// ```
 /// use water::{calls, Card, Refusal};
 /// let card = Card { columns: 2, rows: 1, dx: 1_000_000, dy: 1_000_000, dt: 100, steps: 0 };
 /// let still = [2_000_000, 1_000_000, 0, 0, 0, 0, 0, 0, 0];
 /// let mut next = [0; 9];
-/// calls::step(card, &[0, 0], &still, &mut next).unwrap();
+/// calls::step(card, &[0, 0], &still, &[], &mut next)?;
 /// assert_eq!(next, [2_000_000, 1_000_000, 0, 980_665, 0, 0, 0, 0, 0]);
 ///
 /// let pond = [1_000_000, 0, 0, 0, 0, 0, 0, 0, 0]; // beside a bank 50 cm above it
-/// calls::step(card, &[0, 1_500_000], &pond, &mut next).unwrap();
+/// calls::step(card, &[0, 1_500_000], &pond, &[], &mut next)?;
 /// assert_eq!(next, pond);
 ///
+/// // a pump on cell 0 takes what is there, 1 m of the 1.5 m that it could; an inlet on cell 1 adds 1 cm
+/// calls::step(card, &[0, 0], &[1_000_000, 0, 0, 0, 0, 0, 0, 0, 0], &[0, -1_000_000, 0, -500_000, 1, 10_000], &mut next)?;
+/// assert_eq!(next, [0, 10_000, 0, -9_806, 0, 0, 0, 0, 0]);
+///
 /// let mut short = [7; 8];
-/// assert_eq!(calls::step(card, &[0, 0], &still, &mut short), Err(Refusal::Length));
+/// assert_eq!(calls::step(card, &[0, 0], &still, &[], &mut short), Err(Refusal::Length));
 /// assert_eq!(short, [7; 8]);
+/// # Ok::<(), Refusal>(())
 /// ```
-pub fn step(card: Card, ground: &[i32], state: &[i32], next: &mut [i32]) -> Result<(), Refusal> {
-    step_by(raw::water_step, card, ground, state, next)
+pub fn step(card: Card, ground: &[i32], state: &[i32], pumps: &[i32], next: &mut [i32]) -> Result<(), Refusal> {
+    step_by(raw::water_step, card, ground, state, pumps, next)
 }
 
 /// The same step by the textbook engine, for those who read beside the paper of Herbin, Latché, Nasseri and Therme: pressure and ground,
@@ -59,29 +73,42 @@ pub fn step(card: Card, ground: &[i32], state: &[i32], next: &mut [i32]) -> Resu
 /// let mut state = [2_000_000, 1_000_000, 0, 0, 0, 0, 0, 0, 0];
 /// for expected in [[2_000_000, 1_000_000, 0, 980_665, 0, 0, 0, 0, 0], [1_803_867, 1_196_133, 0, 1_512_534, 0, 0, 0, 0, 0]] {
 ///     let (mut next, mut textbook) = ([0; 9], [0; 9]);
-///     calls::step(card, &[0, 0], &state, &mut next)?;
-///     calls::step_textbook(card, &[0, 0], &state, &mut textbook)?;
+///     calls::step(card, &[0, 0], &state, &[], &mut next)?;
+///     calls::step_textbook(card, &[0, 0], &state, &[], &mut textbook)?;
 ///     assert_eq!((next, textbook), (expected, expected));
 ///     state = textbook;
 /// }
 ///
 /// state[3] = 20_000_001;
 /// let mut next = [7; 9];
-/// assert_eq!(calls::step_textbook(card, &[0, 0], &state, &mut next), Err(Refusal::Value));
+/// assert_eq!(calls::step_textbook(card, &[0, 0], &state, &[], &mut next), Err(Refusal::Value));
 /// assert_eq!(next, [7; 9]);
 /// # Ok::<(), Refusal>(())
 /// ```
-pub fn step_textbook(card: Card, ground: &[i32], state: &[i32], next: &mut [i32]) -> Result<(), Refusal> {
-    step_by(raw::water_step_textbook, card, ground, state, next)
+pub fn step_textbook(card: Card, ground: &[i32], state: &[i32], pumps: &[i32], next: &mut [i32]) -> Result<(), Refusal> {
+    step_by(raw::water_step_textbook, card, ground, state, pumps, next)
 }
 
-fn step_by(step: raw::Step, card: Card, ground: &[i32], state: &[i32], next: &mut [i32]) -> Result<(), Refusal> {
+fn step_by(step: raw::Step, card: Card, ground: &[i32], state: &[i32], pumps: &[i32], next: &mut [i32]) -> Result<(), Refusal> {
     // Safety, here and below: each pointer comes with its own slice's length, and what is filled is borrowed alone.
-    let number = unsafe { step(card, ground.as_ptr(), ground.len(), state.as_ptr(), state.len(), next.as_mut_ptr(), next.len()) };
+    let number = unsafe {
+        step(
+            card,
+            ground.as_ptr(),
+            ground.len(),
+            state.as_ptr(),
+            state.len(),
+            pumps.as_ptr(),
+            pumps.len(),
+            next.as_mut_ptr(),
+            next.len(),
+        )
+    };
     done(number, 0, ())
 }
 
-/// As many steps as the card wants, on `state` itself. `scratch` is as long as `state`, and all zero afterwards.
+/// As many steps as the card wants, on `state` itself, with the same `pumps` before each. `scratch` is as long as `state`, and all zero
+/// afterwards.
 ///
 /// Refused at the start (`Card`, `Length`, `Value`) nothing is touched; otherwise `state` holds the last accepted state.
 ///
@@ -89,15 +116,32 @@ fn step_by(step: raw::Step, card: Card, ground: &[i32], state: &[i32], next: &mu
 /// use water::{calls, Card};
 /// let card = Card { columns: 2, rows: 1, dx: 1_000_000, dy: 1_000_000, dt: 100, steps: 2 };
 /// let mut state = [2_000_000, 1_000_000, 0, 0, 0, 0, 0, 0, 0];
-/// let tally = calls::run(card, &[0, 0], &mut state, &mut [0; 9]);
+/// let tally = calls::run(card, &[0, 0], &mut state, &[], &mut [0; 9]);
 /// assert_eq!((tally.steps, tally.reason, tally.top), (2, None, 2_000_000));
 /// assert_eq!(state, [1_803_867, 1_196_133, 0, 1_512_534, 0, 0, 0, 0, 0]);
+///
+/// // 30 cm are there to take, and no more: 20 cm in the first step, 10 in the second
+/// let mut puddle = [300_000, 0, 0, 0, 0, 0, 0, 0, 0];
+/// let tally = calls::run(card, &[0, 1_000_000], &mut puddle, &[0, -200_000, 1, 0], &mut [0; 9]);
+/// assert_eq!((tally.steps, tally.added, tally.taken), (2, 0, 300_000));
+/// assert_eq!(puddle, [0; 9]);
 /// ```
-pub fn run(card: Card, ground: &[i32], state: &mut [i32], scratch: &mut [i32]) -> Tally {
+pub fn run(card: Card, ground: &[i32], state: &mut [i32], pumps: &[i32], scratch: &mut [i32]) -> Tally {
     let tally = unsafe {
-        raw::water_run(card, ground.as_ptr(), ground.len(), state.as_mut_ptr(), state.len(), scratch.as_mut_ptr(), scratch.len())
+        raw::water_run(
+            card,
+            ground.as_ptr(),
+            ground.len(),
+            state.as_mut_ptr(),
+            state.len(),
+            pumps.as_ptr(),
+            pumps.len(),
+            scratch.as_mut_ptr(),
+            scratch.len(),
+        )
     };
-    Tally { steps: tally.steps, reason: Refusal::of(tally.reason, 0), top: tally.top }
+    let raw::Tally { steps, reason, top, added, taken } = tally;
+    Tally { steps, reason: Refusal::of(reason, 0), top, added, taken }
 }
 
 /// The chambers inside `window` whose cell is at least `depth` deep: the first places of `found`, as many as is answered, hold

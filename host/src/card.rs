@@ -28,6 +28,17 @@ impl Card {
         self.cells().saturating_add(self.eastward_faces()).saturating_add(self.northward_faces())
     }
 
+    /// The volume in cubic micrometres of so many micrometres of height, summed over cells: of a site's heights, or of what a tally says was
+    /// added or taken. It is exact: no product of these three numbers is more than a `u128` holds.
+    ///
+    /// ```
+    /// let card = water::Card { dx: 1_000_000, dy: 500_000, ..Default::default() };
+    /// assert_eq!(card.volume(3_000) / 10_u128.pow(12), 1_500); // millilitres
+    /// ```
+    pub fn volume(&self, heights: u64) -> u128 {
+        u128::from(heights) * u128::from(self.dx) * u128::from(self.dy)
+    }
+
     /// How many bytes the site's sheet has; `usize::MAX` if there are more.
     ///
     /// ```

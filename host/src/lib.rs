@@ -3,7 +3,8 @@
 //! A [`Site`] owns its lists and is the comfortable way in; [`calls`] has the library's calls on slices that a host keeps itself;
 //! [`raw`] is what C sees. All state is whole numbers: micrometres, micrometres a second, milliseconds. Rows run south to north,
 //! and within a row west to east. Two engines make a step, to the same numbers: [`calls::step`] is the default, which a run repeats, and
-//! [`calls::step_textbook`] is for reading beside the paper (of Herbin, Latché, Nasseri and Therme).
+//! [`calls::step_textbook`] is for reading beside the paper (of Herbin, Latché, Nasseri and Therme). Steps and runs take up to 64 pumps and
+//! inlets ([`Pump`]).
 //!
 //! # Stack
 //!
@@ -14,7 +15,7 @@
 //! |---|---|---|---|
 //! | [`calls::step`] | 398,000 | 27,000 | 1,000 |
 //! | [`calls::step_textbook`] | 398,000 | 27,000 | 1,000 |
-//! | [`calls::run`] | 200,000 | 15,000 | 1,000 |
+//! | [`calls::run`] | 201,000 | 15,000 | 1,000 |
 //! | [`calls::search`] | 38,000 | 38,000 | 38,000 |
 //! | [`calls::search_lists`] | 6,000 | 6,000 | 6,000 |
 //! | [`calls::read_sheet`] | 1,000 | 1,000 | 1,000 |
@@ -23,7 +24,8 @@
 //!
 //! Small is a site whose state has at most 3,136 words, as with 32 columns and 32 rows; where it has at most 800, as with 16 and 16, a step
 //! by either engine takes 9,000. Refused means with `Card`, `Length` or `Value`, and by the sheet reader with `Sheet` too: the later
-//! refusals of a step or a run take what the site takes. A [`Site`] takes as much as the calls that it makes.
+//! refusals of a step or a run take what the site takes. A step is named there without pumps: with pumps it takes 596,000, on a small site
+//! 40,000. A run takes no more with pumps than without. A thread that has 640,000 bytes does for every call, whatever the input. A [`Site`] takes as much as the calls that it makes, and 1,000 for the list of its pumps.
 //!
 //! # The archive
 //!
@@ -31,11 +33,13 @@
 
 pub mod calls;
 mod card;
+mod pump;
 pub mod raw;
 mod refusal;
 mod site;
 
 pub use calls::Tally;
+pub use pump::Pump;
 pub use raw::{Card, Chamber, Window};
 pub use refusal::Refusal;
 pub use site::Site;

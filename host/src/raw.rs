@@ -15,13 +15,38 @@ pub struct Card {
     pub steps: u32,
 }
 
-/// What a run answers: steps done, the number of the reason it stopped, the greatest height met.
+/// A pump: its cell, by the cell's place in the ground's list, and its amount in micrometres a step. [`crate::Pump`] names the cell by column
+/// and row.
+#[repr(C)]
+#[derive(Clone, Copy, Debug, Default, PartialEq, Eq)]
+pub struct Pump {
+    pub cell: i32,
+    pub amount: i32,
+}
+
+impl Pump {
+    /// Records as the list of words that the calls take, cell and amount by turns.
+    ///
+    /// ```
+    /// use water::raw::Pump;
+    /// let pumps = [Pump { cell: 0, amount: -100 }, Pump { cell: 7, amount: 20 }];
+    /// assert_eq!(Pump::words(&pumps), [0, -100, 7, 20]);
+    /// ```
+    pub fn words(pumps: &[Pump]) -> &[i32] {
+        // Safety: a record is two words and nothing else, and the words are borrowed as long as the records are.
+        unsafe { std::slice::from_raw_parts(pumps.as_ptr().cast(), 2 * pumps.len()) }
+    }
+}
+
+/// What a run answers: steps done, the number of the reason it stopped, the greatest height met, and what its pumps added and took.
 #[repr(C)]
 #[derive(Clone, Copy, Debug, Default, PartialEq, Eq)]
 pub struct Tally {
     pub steps: u32,
     pub reason: u32,
     pub top: i32,
+    pub added: u64,
+    pub taken: u64,
 }
 
 /// The window that a finger drew: four edges in micrometres. They are never rounded.
@@ -67,7 +92,7 @@ pub struct Wrote {
 }
 
 /// A step's call by either engine: [`water_step`] or [`water_step_textbook`].
-pub type Step = unsafe extern "C" fn(Card, *const i32, usize, *const i32, usize, *mut i32, usize) -> u32;
+pub type Step = unsafe extern "C" fn(Card, *const i32, usize, *const i32, usize, *const i32, usize, *mut i32, usize) -> u32;
 
 extern "C" {
     pub fn water_step(
@@ -76,6 +101,8 @@ extern "C" {
         ground_length: usize,
         state: *const i32,
         state_length: usize,
+        pumps: *const i32,
+        pumps_length: usize,
         next: *mut i32,
         next_length: usize,
     ) -> u32;
@@ -86,6 +113,8 @@ extern "C" {
         ground_length: usize,
         state: *const i32,
         state_length: usize,
+        pumps: *const i32,
+        pumps_length: usize,
         next: *mut i32,
         next_length: usize,
     ) -> u32;
@@ -96,6 +125,8 @@ extern "C" {
         ground_length: usize,
         state: *mut i32,
         state_length: usize,
+        pumps: *const i32,
+        pumps_length: usize,
         scratch: *mut i32,
         scratch_length: usize,
     ) -> Tally;

@@ -6,16 +6,16 @@ use std::fmt;
 /// no site that keeps the step limit has one (request 7 of document 02).
 #[derive(Clone, Copy, Debug, PartialEq, Eq)]
 pub enum Refusal {
-    /// 1: columns, rows, a side, dt or steps wanted outside its range
+    /// 1: columns, rows, a side, dt or steps wanted outside its range, or over 64 pumps
     Card,
-    /// 2: a lent list has the wrong length, or there are over 1,000 chambers
+    /// 2: a lent list has the wrong length (that of pumps an odd one), or there are over 1,000 chambers
     Length,
-    /// 3: a value outside its range, a wall velocity not 0, or a window edge not finite
+    /// 3: a value outside its range, a wall velocity not 0, a pump's cell that the site has not, or a window edge not finite
     Value,
     /// 4: some cell breaks the step limit: the velocities that point out of it would take more than it holds in one step. A dry cell
     /// counts too, and a velocity that points into a cell does not count there. A shorter time step helps.
     StepLimit,
-    /// 5: some new height exceeds 50,000,000
+    /// 5: some new height exceeds 50,000,000, or an inlet takes its cell past that at its turn, even if a later pump would take it back
     TooHigh,
     /// 7: some new velocity lies outside its range
     TooFast,
@@ -60,11 +60,13 @@ impl Refusal {
 impl fmt::Display for Refusal {
     fn fmt(&self, f: &mut fmt::Formatter<'_>) -> fmt::Result {
         match self {
-            Refusal::Card => f.write_str("columns, rows, a side, dt or steps outside its range (1)"),
+            Refusal::Card => f.write_str("columns, rows, a side, dt or steps outside its range, or over 64 pumps (1)"),
             Refusal::Length => f.write_str("a list of the wrong length, or over 1,000 chambers (2)"),
-            Refusal::Value => f.write_str("a value outside its range, a wall velocity not 0, or a window edge not finite (3)"),
+            Refusal::Value => f.write_str(
+                "a value outside its range, a wall velocity not 0, a pump's cell that the site has not, or a window edge not finite (3)",
+            ),
             Refusal::StepLimit => f.write_str("some cell breaks the step limit (4)"),
-            Refusal::TooHigh => f.write_str("some new height exceeds 50,000,000 (5)"),
+            Refusal::TooHigh => f.write_str("some new height, or one that an inlet makes, exceeds 50,000,000 (5)"),
             Refusal::TooFast => f.write_str("some new velocity lies outside its range (7)"),
             Refusal::Room { needed } => write!(f, "the lent room is too short, {needed} places are needed (8)"),
             Refusal::Sheet => f.write_str("not a sheet of version 1, or its length field is not the bytes given (9)"),

@@ -2,6 +2,7 @@
 
 use crate::calls::{self, Tally};
 use crate::card::SHEET_HEAD;
+use crate::pump::{Pump, Words};
 use crate::raw::{Card, Chamber, Window};
 use crate::refusal::Refusal;
 use std::ops::ControlFlow;
@@ -105,7 +106,29 @@ impl Site {
     /// # Ok::<(), Refusal>(())
     /// ```
     pub fn step(&mut self) -> Result<(), Refusal> {
-        let answer = calls::step(self.card, &self.ground, &self.state, &mut self.spare);
+        self.step_with(&[])
+    }
+
+    /// One step with pumps, which act before it, in the order of their list. Refused, the site is as it was: nothing was added or taken.
+    ///
+    /// ```
+    /// # use water::{Card, Pump, Refusal, Site};
+    /// # let card = Card { columns: 2, rows: 1, dx: 1_000_000, dy: 1_000_000, dt: 100, steps: 2 };
+    /// let mut site = Site::still(card, vec![0, 0], &[300_000, 0])?;
+    /// let pump = Pump { column: 0, row: 0, amount: -500_000 }; // takes the 30 cm that are there
+    /// let inlet = Pump { column: 1, row: 0, amount: 20_000 };
+    /// site.step_with(&[pump, inlet])?;
+    /// assert_eq!(site.heights(), [0, 20_000]);
+    ///
+    /// // the site has no column 2, and its cell is no other's
+    /// assert_eq!(site.step_with(&[Pump { column: 2, ..pump }]), Err(Refusal::Value));
+    /// assert_eq!(site.step_with(&[pump; 65]), Err(Refusal::Card));
+    /// assert_eq!(site.heights(), [0, 20_000]);
+    /// # Ok::<(), Refusal>(())
+    /// ```
+    pub fn step_with(&mut self, pumps: &[Pump]) -> Result<(), Refusal> {
+        let words = Words::of(&self.card, pumps);
+        let answer = calls::step(self.card, &self.ground, &self.state, words.lent(), &mut self.spare);
         self.take_over(answer)
     }
 
@@ -123,7 +146,26 @@ impl Site {
     /// # Ok::<(), Refusal>(())
     /// ```
     pub fn step_textbook(&mut self) -> Result<(), Refusal> {
-        let answer = calls::step_textbook(self.card, &self.ground, &self.state, &mut self.spare);
+        self.step_textbook_with(&[])
+    }
+
+    /// One step with pumps by the textbook engine: the site that [`Site::step_with`] makes, and the same refusals.
+    ///
+    /// ```
+    /// # use water::{Card, Pump, Refusal, Site};
+    /// # let card = Card { columns: 2, rows: 1, dx: 1_000_000, dy: 1_000_000, dt: 100, steps: 2 };
+    /// let mut site = Site::still(card, vec![0, 0], &[2_000_000, 1_000_000])?;
+    /// let mut other = site.clone();
+    /// let inlet = Pump { column: 1, row: 0, amount: 500_000 };
+    /// site.step_with(&[inlet])?;
+    /// other.step_textbook_with(&[inlet])?;
+    /// assert_eq!(site.eastward(), [0, 490_332, 0]);
+    /// assert_eq!(other, site);
+    /// # Ok::<(), Refusal>(())
+    /// ```
+    pub fn step_textbook_with(&mut self, pumps: &[Pump]) -> Result<(), Refusal> {
+        let words = Words::of(&self.card, pumps);
+        let answer = calls::step_textbook(self.card, &self.ground, &self.state, words.lent(), &mut self.spare);
         self.take_over(answer)
     }
 
@@ -137,7 +179,27 @@ impl Site {
 
     /// As many steps as the card wants.
     pub fn run(&mut self) -> Tally {
-        calls::run(self.card, &self.ground, &mut self.state, &mut self.spare)
+        self.run_with(&[])
+    }
+
+    /// As many steps as the card wants, with the same pumps before each. The tally says what was added and what was taken over the steps
+    /// done: the sum of all heights at the end plus `taken` is the sum at the start plus `added`, whatever the reason.
+    ///
+    /// ```
+    /// # use water::{Card, Pump, Refusal, Site};
+    /// let card = Card { columns: 2, rows: 1, dx: 1_000_000, dy: 1_000_000, dt: 100, steps: 40 };
+    /// let mut site = Site::still(card, vec![0, 0], &[200_000, 200_000])?;
+    /// let first = site.volume();
+    /// let pump = Pump { column: 0, row: 0, amount: -20_000 };
+    /// let inlet = Pump { column: 1, row: 0, amount: 5_000 };
+    /// let tally = site.run_with(&[pump, inlet]);
+    /// assert_eq!((tally.steps, tally.reason, tally.added), (40, None, 200_000));
+    /// assert!(tally.taken <= 800_000); // a cell that is dry at the pump's turn has nothing to take
+    /// assert_eq!(site.volume() + card.volume(tally.taken), first + card.volume(tally.added));
+    /// # Ok::<(), Refusal>(())
+    /// ```
+    pub fn run_with(&mut self, pumps: &[Pump]) -> Tally {
+        self.run_steps(self.card.steps, Words::of(&self.card, pumps).lent())
     }
 
     /// As many steps as the card wants, at most `slice` at a time, with a look at the site and the tally so far after each slice
@@ -164,21 +226,57 @@ impl Site {
     /// # Panics
     ///
     /// If `slice` is 0.
-    pub fn run_in_slices(&mut self, slice: u32, mut look: impl FnMut(&Site, &Tally) -> ControlFlow<()>) -> Tally {
+    pub fn run_in_slices(&mut self, slice: u32, look: impl FnMut(&Site, &Tally) -> ControlFlow<()>) -> Tally {
+        self.run_in_slices_with(&[], slice, look)
+    }
+
+    /// [`Site::run_in_slices`] with pumps: what is added and taken is summed over the slices. A run that is not broken off ends as
+    /// [`Site::run_with`] does.
+    ///
+    /// ```
+    /// use std::ops::ControlFlow;
+    /// # use water::{Card, Pump, Refusal, Site};
+    /// let card = Card { columns: 2, rows: 1, dx: 1_000_000, dy: 1_000_000, dt: 100, steps: 1_000 };
+    /// let mut site = Site::still(card, vec![0, 0], &[200_000, 200_000])?;
+    /// let pump = Pump { column: 0, row: 0, amount: -2_000 };
+    /// let tally = site.run_in_slices_with(&[pump], 10, |site, so_far| {
+    ///     println!("{} µm taken, {} left", so_far.taken, site.height(0, 0));
+    ///     if so_far.taken < 300_000 { ControlFlow::Continue(()) } else { ControlFlow::Break(()) }
+    /// });
+    /// assert_eq!((tally.steps, tally.taken), (150, 300_000));
+    /// # Ok::<(), Refusal>(())
+    /// ```
+    ///
+    /// # Panics
+    ///
+    /// If `slice` is 0.
+    pub fn run_in_slices_with(
+        &mut self,
+        pumps: &[Pump],
+        slice: u32,
+        mut look: impl FnMut(&Site, &Tally) -> ControlFlow<()>,
+    ) -> Tally {
         assert!(slice > 0, "a slice has at least one step");
-        let mut tally = self.run_steps(0);
-        while tally.steps < self.card.steps {
-            let part = self.run_steps(slice.min(self.card.steps - tally.steps));
-            tally = Tally { steps: tally.steps + part.steps, reason: part.reason, top: tally.top.max(part.top) };
-            if tally.reason.is_some() || look(self, &tally).is_break() {
+        let words = Words::of(&self.card, pumps);
+        let mut tally = self.run_steps(0, words.lent());
+        while tally.reason.is_none() && tally.steps < self.card.steps {
+            let part = self.run_steps(slice.min(self.card.steps - tally.steps), words.lent());
+            tally = Tally {
+                steps: tally.steps + part.steps,
+                reason: part.reason,
+                top: tally.top.max(part.top),
+                added: tally.added + part.added,
+                taken: tally.taken + part.taken,
+            };
+            if tally.reason.is_none() && look(self, &tally).is_break() {
                 break;
             }
         }
         tally
     }
 
-    fn run_steps(&mut self, steps: u32) -> Tally {
-        calls::run(Card { steps, ..self.card }, &self.ground, &mut self.state, &mut self.spare)
+    fn run_steps(&mut self, steps: u32, pumps: &[i32]) -> Tally {
+        calls::run(Card { steps, ..self.card }, &self.ground, &mut self.state, pumps, &mut self.spare)
     }
 
     /// The places in the register, rising, of the chambers inside the window whose cell is at least `depth` deep.
@@ -247,7 +345,7 @@ impl Site {
     }
 
     /// How much water is on the site, in cubic micrometres: the sum of all heights times the area of a cell. It is exact, and no step and
-    /// no run changes it, whatever the run's reason.
+    /// no run without pumps changes it, whatever the run's reason; with pumps it changes by what the tally says was added and taken.
     ///
     /// A litre has 10^15 of them. The sum of a site's heights is at most 819,200,000,000 and an area at most 4·10^14, so that a volume
     /// takes up to 89 bits: a `u128` holds each, and a `u64` would not.
@@ -266,7 +364,7 @@ impl Site {
     pub fn volume(&self) -> u128 {
         // no height of a site is below 0
         let sum: u64 = self.heights().iter().map(|height| u64::from(height.unsigned_abs())).sum();
-        u128::from(sum) * u128::from(self.card.dx) * u128::from(self.card.dy)
+        self.card.volume(sum)
     }
 
     /// The depth text of one cell.

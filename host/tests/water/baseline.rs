@@ -23,23 +23,25 @@ fn steps_and_runs() {
     let (mut dividing, mut skipping) = (plain::Plain::<false>::new(), plain::Plain::<true>::new());
     trials("plain steps", 6_000, |rng| {
         let site = wild::any(rng);
+        // in half of the cases no pumps
+        let pumps = if rng.percent(50) { vec![] } else { wild::any_pumps(rng, &site) };
         let mut next = room(rng, site.state.len());
         let (mut skipped, mut expected) = (next.clone(), next.clone());
         let (mut textbook, mut textbook_skipped) = (next.clone(), next.clone());
-        let number = model::step(site.card, &site.ground, &site.state, &mut expected);
-        assert_eq!(dividing.step(site.card, &site.ground, &site.state, &mut next), number);
-        assert_eq!(skipping.step(site.card, &site.ground, &site.state, &mut skipped), number);
+        let number = model::step(site.card, &site.ground, &site.state, &pumps, &mut expected);
+        assert_eq!(dividing.step(site.card, &site.ground, &site.state, &pumps, &mut next), number);
+        assert_eq!(skipping.step(site.card, &site.ground, &site.state, &pumps, &mut skipped), number);
         assert!(next == expected && skipped == expected);
-        assert_eq!(dividing.step_textbook(site.card, &site.ground, &site.state, &mut textbook), number);
-        assert_eq!(skipping.step_textbook(site.card, &site.ground, &site.state, &mut textbook_skipped), number);
+        assert_eq!(dividing.step_textbook(site.card, &site.ground, &site.state, &pumps, &mut textbook), number);
+        assert_eq!(skipping.step_textbook(site.card, &site.ground, &site.state, &pumps, &mut textbook_skipped), number);
         assert!(textbook == expected && textbook_skipped == expected, "by the textbook engine");
         given.count(number);
         banks += if number == 0 { site.banks_in(&next) } else { 0 };
         let lists = (site.state.clone(), room(rng, site.state.len()));
         let (mut divided, mut skipped, mut expected) = (lists.clone(), lists.clone(), lists);
-        let tally = model::run(site.card, &site.ground, &mut expected.0, &mut expected.1);
-        assert_eq!(dividing.run(site.card, &site.ground, &mut divided.0, &mut divided.1), tally);
-        assert_eq!(skipping.run(site.card, &site.ground, &mut skipped.0, &mut skipped.1), tally);
+        let tally = model::run(site.card, &site.ground, &mut expected.0, &pumps, &mut expected.1);
+        assert_eq!(dividing.run(site.card, &site.ground, &mut divided.0, &pumps, &mut divided.1), tally);
+        assert_eq!(skipping.run(site.card, &site.ground, &mut skipped.0, &pumps, &mut skipped.1), tally);
         assert!(divided == expected && skipped == expected);
     });
     given.assert_often("plain steps", &[0, 1, 2, 3, 4, 5, 7], 60);

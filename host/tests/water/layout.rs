@@ -2,7 +2,7 @@
 //! reads and writes each field at its place is seen wherever a test compares records whose fields all differ.
 
 use std::mem::{align_of, size_of};
-use water::raw::{Card, Chamber, Found, Heard, Tally, Window, Wrote};
+use water::raw::{Card, Chamber, Found, Heard, Pump, Tally, Window, Wrote};
 
 macro_rules! offsets {
     ($record:ty: $($field:ident)*) => {{
@@ -16,8 +16,11 @@ macro_rules! offsets {
 fn records_are_laid_out_as_in_the_header() {
     assert_eq!((size_of::<Card>(), align_of::<Card>()), (24, 4));
     assert_eq!(offsets!(Card: columns rows dx dy dt steps), [0, 4, 8, 12, 16, 20]);
-    assert_eq!((size_of::<Tally>(), align_of::<Tally>()), (12, 4));
-    assert_eq!(offsets!(Tally: steps reason top), [0, 4, 8]);
+    assert_eq!((size_of::<Pump>(), align_of::<Pump>()), (8, 4));
+    assert_eq!(offsets!(Pump: cell amount), [0, 4]);
+    // four bytes of padding behind top
+    assert_eq!((size_of::<Tally>(), align_of::<Tally>()), (32, 8));
+    assert_eq!(offsets!(Tally: steps reason top added taken), [0, 4, 8, 16, 24]);
     assert_eq!((size_of::<Window>(), align_of::<Window>()), (32, 8));
     assert_eq!(offsets!(Window: west south east north), [0, 8, 16, 24]);
     assert_eq!((size_of::<Chamber>(), align_of::<Chamber>()), (16, 8));

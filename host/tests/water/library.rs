@@ -1,58 +1,84 @@
 //! Each call of the library on fenced lists, beside the model: both get the same input, and every answer and every element of every
 //! lent list is compared. A call that leaves a list at one end meets a fence; one that writes within 1,024 bytes of the other end
 //! spoils a pattern. Each function returns the answer that both gave. Of every step and every run the sums of all heights are compared
-//! too, before and after; and every step is made by both engines, so that each test of a step is one of the textbook engine as well.
+//! too, before and after, with what pumps added and took; and every step is made by both engines, so that each test of a step is one of the
+//! textbook engine as well. `step` and `run` lend an empty list of pumps.
 
 use crate::lent::Lent;
 use crate::model;
 use crate::rng::Rng;
 use water::raw::{self, Card, Chamber, Found, Heard, Tally, Window, Wrote};
 
+type Model = fn(Card, ground: &[i32], state: &[i32], pumps: &[i32], next: &mut [i32]) -> u32;
+
 /// A step's call, beside the model's that it is held to.
 struct Engine {
     name: &'static str,
     call: raw::Step,
-    model: fn(Card, &[i32], &[i32], &mut [i32]) -> u32,
+    model: Model,
 }
 
 const FIRST: Engine = Engine { name: "step", call: raw::water_step, model: model::step };
 const TEXTBOOK: Engine = Engine { name: "textbook step", call: raw::water_step_textbook, model: model::step_textbook };
 
-/// By both engines: the same number, and the same in every list.
 pub fn step(rng: &mut Rng, card: Card, ground: &[i32], state: &[i32], next: &mut [i32]) -> u32 {
+    step_with(rng, card, ground, state, &[], next)
+}
+
+/// By both engines: the same number, and the same in every list.
+pub fn step_with(rng: &mut Rng, card: Card, ground: &[i32], state: &[i32], pumps: &[i32], next: &mut [i32]) -> u32 {
     let mut textbook_next = next.to_vec();
-    let number = step_by(&FIRST, rng, card, ground, state, next);
-    let textbook = step_by(&TEXTBOOK, rng, card, ground, state, &mut textbook_next);
+    let number = step_by(&FIRST, rng, card, ground, state, pumps, next);
+    let textbook = step_by(&TEXTBOOK, rng, card, ground, state, pumps, &mut textbook_next);
     assert_eq!(textbook, number, "both engines' step of {card:?}");
     assert!(textbook_next == next, "both engines' next state of {card:?}");
     number
 }
 
-fn step_by(engine: &Engine, rng: &mut Rng, card: Card, ground: &[i32], state: &[i32], next: &mut [i32]) -> u32 {
+fn step_by(engine: &Engine, rng: &mut Rng, card: Card, ground: &[i32], state: &[i32], pumps: &[i32], next: &mut [i32]) -> u32 {
     let (g, s, n) = (Lent::new(rng, "ground", ground), Lent::new(rng, "state", state), Lent::new(rng, "next", next));
+    let p = Lent::new(rng, "pumps", pumps);
     // Safety, here and below: each pointer comes with its own list's length, and no two lists share memory.
-    let number = unsafe { (engine.call)(card, g.pointer(), g.length(), s.pointer(), s.length(), n.pointer(), n.length()) };
-    let expected = (engine.model)(card, ground, state, next);
-    assert_eq!(number, expected, "{} of {card:?}", engine.name);
+    let number = unsafe {
+        (engine.call)(card, g.pointer(), g.length(), s.pointer(), s.length(), p.pointer(), p.length(), n.pointer(), n.length())
+    };
+    let expected = (engine.model)(card, ground, state, pumps, next);
+    assert_eq!(number, expected, "{} of {card:?} with {pumps:?}", engine.name);
     g.assert_holds(ground);
     s.assert_holds(state);
+    p.assert_holds(pumps);
     n.assert_holds(next);
     if number == 0 {
-        assert_eq!(model::sum_of_heights(&card, next), model::sum_of_heights(&card, state), "no water is made and none is lost");
+        let moved = model::pumped(pumps, state).expect("inlets of an accepted step fit");
+        let (before, after) = (model::sum_of_heights(&card, state), model::sum_of_heights(&card, next));
+        assert_eq!(after + moved.taken, before + moved.added, "no water is made and none is lost but by pumps");
     }
     number
 }
 
 pub fn run(rng: &mut Rng, card: Card, ground: &[i32], state: &mut [i32], scratch: &mut [i32]) -> Tally {
+    run_with(rng, card, ground, state, &[], scratch)
+}
+
+pub fn run_with(rng: &mut Rng, card: Card, ground: &[i32], state: &mut [i32], pumps: &[i32], scratch: &mut [i32]) -> Tally {
     let (g, s, t) = (Lent::new(rng, "ground", ground), Lent::new(rng, "state", state), Lent::new(rng, "scratch", scratch));
-    let tally = unsafe { raw::water_run(card, g.pointer(), g.length(), s.pointer(), s.length(), t.pointer(), t.length()) };
+    let p = Lent::new(rng, "pumps", pumps);
+    let tally = unsafe {
+        raw::water_run(card, g.pointer(), g.length(), s.pointer(), s.length(), p.pointer(), p.length(), t.pointer(), t.length())
+    };
     let before = model::sum_of_heights(&card, state);
-    let expected = model::run(card, ground, state, scratch);
-    assert_eq!(tally, expected, "run of {card:?}");
+    let expected = model::run(card, ground, state, pumps, scratch);
+    assert_eq!(tally, expected, "run of {card:?} with {pumps:?}");
     g.assert_holds(ground);
     s.assert_holds(state);
+    p.assert_holds(pumps);
     t.assert_holds(scratch);
-    assert_eq!(model::sum_of_heights(&card, state), before, "no water is made and none is lost, whatever the reason");
+    let after = model::sum_of_heights(&card, state);
+    assert_eq!(
+        after + i128::from(tally.taken),
+        before + i128::from(tally.added),
+        "no water is made and none is lost but by pumps, whatever the reason"
+    );
     tally
 }
 

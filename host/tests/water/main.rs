@@ -20,6 +20,7 @@ mod layout;
 mod numbers;
 mod player;
 mod ponds;
+mod pumps;
 mod run;
 mod search;
 mod sheet;

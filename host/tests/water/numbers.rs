@@ -129,8 +129,8 @@ fn run_one_cell(card: Card) -> (Tally, Vec<i32>, Vec<i32>) {
 fn one_cell_for_ten_thousand_steps() {
     let card = Card { columns: 1, ..CARD };
     let whole = run_one_cell(Card { steps: 10_000, ..card });
-    assert_eq!(whole, (Tally { steps: 10_000, reason: 0, top: 7 }, vec![7, 0, 0, 0, 0], vec![0; 5]));
-    let refused = (Tally { steps: 0, reason: 1, top: 0 }, vec![7, 0, 0, 0, 0], vec![5; 5]);
+    assert_eq!(whole, (Tally { steps: 10_000, reason: 0, top: 7, added: 0, taken: 0 }, vec![7, 0, 0, 0, 0], vec![0; 5]));
+    let refused = (Tally { steps: 0, reason: 1, top: 0, added: 0, taken: 0 }, vec![7, 0, 0, 0, 0], vec![5; 5]);
     assert_eq!(run_one_cell(Card { steps: 10_001, ..card }), refused);
     assert_eq!(run_one_cell(Card { columns: 129, ..card }), refused);
 }

@@ -13,9 +13,9 @@ use water::{calls, Tally};
 /// A run of the library does all its steps and changes nothing; top is the greatest height, and scratch is zero.
 pub fn assert_lies_still(site: &Wild) {
     let (mut state, mut scratch) = (site.state.clone(), vec![-7; site.state.len()]);
-    let tally = calls::run(site.card, &site.ground, &mut state, &mut scratch);
+    let tally = calls::run(site.card, &site.ground, &mut state, &[], &mut scratch);
     let top = site.state[..site.ground.len()].iter().copied().max().expect("a site has a cell");
-    assert_eq!(tally, Tally { steps: site.card.steps, reason: None, top });
+    assert_eq!(tally, Tally { steps: site.card.steps, reason: None, top, added: 0, taken: 0 });
     assert!(state == site.state, "still water stays as it is");
     assert!(scratch.iter().all(|&word| word == 0));
 }

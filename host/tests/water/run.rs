@@ -35,16 +35,19 @@ fn what_is_left_in_the_lists() {
         (tally, state, scratch)
     };
     let lent = |middle: i32| vec![5, 6, 0, middle, 0, 0, 0, 0, 0];
-    assert_eq!(run(card, 3), (Tally { steps: 0, reason: 0, top: 6 }, lent(3), vec![0; 9]));
-    assert_eq!(run(Card { dt: 0, ..card }, 3), (Tally { steps: 0, reason: 1, top: 0 }, lent(3), vec![9; 9]));
-    assert_eq!(run(Card { rows: 2, ..card }, 3), (Tally { steps: 0, reason: 2, top: 0 }, lent(3), vec![9; 9]));
+    assert_eq!(run(card, 3), (Tally { steps: 0, reason: 0, top: 6, added: 0, taken: 0 }, lent(3), vec![0; 9]));
+    assert_eq!(run(Card { dt: 0, ..card }, 3), (Tally { steps: 0, reason: 1, top: 0, added: 0, taken: 0 }, lent(3), vec![9; 9]));
+    assert_eq!(
+        run(Card { rows: 2, ..card }, 3),
+        (Tally { steps: 0, reason: 2, top: 0, added: 0, taken: 0 }, lent(3), vec![9; 9])
+    );
     let fast = 20_000_001;
-    assert_eq!(run(card, fast), (Tally { steps: 0, reason: 3, top: 0 }, lent(fast), vec![9; 9]));
+    assert_eq!(run(card, fast), (Tally { steps: 0, reason: 3, top: 0, added: 0, taken: 0 }, lent(fast), vec![9; 9]));
     let brisk = 10_000_001;
-    let stopped = (Tally { steps: 0, reason: 4, top: 6 }, lent(brisk), vec![0; 9]);
+    let stopped = (Tally { steps: 0, reason: 4, top: 6, added: 0, taken: 0 }, lent(brisk), vec![0; 9]);
     assert_eq!(run(Card { steps: 1, ..card }, brisk), stopped);
     // no step wanted, so that no step is refused
-    assert_eq!(run(card, brisk).0, Tally { steps: 0, reason: 0, top: 6 });
+    assert_eq!(run(card, brisk).0, Tally { steps: 0, reason: 0, top: 6, added: 0, taken: 0 });
 }
 
 /// Each reason that a step can give, 4, 5 and 7, met in the middle of a run.
@@ -75,7 +78,7 @@ fn the_dry_bank_lies_still() {
     let start = [1_000_000, 0, 0, 0, 0, 0, 0, 0, 0];
     let (mut state, mut scratch) = (start, [1; 9]);
     let tally = library::run(&mut Rng::new(1), card, &[0, 1_500_000], &mut state, &mut scratch);
-    assert_eq!((tally, state, scratch), (Tally { steps: 100, reason: 0, top: 1_000_000 }, start, [0; 9]));
+    assert_eq!((tally, state, scratch), (Tally { steps: 100, reason: 0, top: 1_000_000, added: 0, taken: 0 }, start, [0; 9]));
 }
 
 /// Top is met in the start, in the middle and at the end of runs; it is not the last state's greatest height.

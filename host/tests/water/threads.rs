@@ -31,6 +31,9 @@ fn calls_at_once() {
 fn steps(rng: &mut Rng, mut site: Wild) {
     let mut list = vec![-7; site.state.len()];
     library::step(rng, site.card, &site.ground, &site.state, &mut list);
+    let pumps = wild::any_pumps(rng, &site);
+    library::step_with(rng, site.card, &site.ground, &site.state, &pumps, &mut list);
+    library::run_with(rng, site.card, &site.ground, &mut site.state, &pumps, &mut list);
     library::run(rng, site.card, &site.ground, &mut site.state, &mut list);
 }
 

@@ -28,7 +28,7 @@ fn turned_runs() {
 /// The tally and the end state of the library's run.
 fn ended(site: &Wild) -> (water::Tally, Vec<i32>) {
     let (mut state, mut scratch) = (site.state.clone(), vec![0; site.state.len()]);
-    let tally = calls::run(site.card, &site.ground, &mut state, &mut scratch);
+    let tally = calls::run(site.card, &site.ground, &mut state, &[], &mut scratch);
     (tally, state)
 }
 

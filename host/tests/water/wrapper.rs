@@ -95,7 +95,7 @@ fn a_site_steps_as_the_model() {
         let mut site = Site::new(start.card, start.ground.clone(), start.state.clone()).unwrap();
         let mut textbook = site.clone();
         let mut next = start.state.clone();
-        let expected = model::step(start.card, &start.ground, &start.state, &mut next);
+        let expected = model::step(start.card, &start.ground, &start.state, &[], &mut next);
         assert_eq!(number(&site.step()), expected);
         assert_eq!(site.state(), next);
         assert_eq!((site.card(), site.ground()), (start.card, &start.ground[..]));
@@ -215,7 +215,7 @@ fn a_look_can_break_a_run_off() {
     let mut site = Site::still(card, vec![0, 0], &[7, 7]).unwrap();
     let tally =
         site.run_in_slices(3, |_, so_far| if so_far.steps < 9 { ControlFlow::Continue(()) } else { ControlFlow::Break(()) });
-    assert_eq!(tally, Tally { steps: 9, reason: None, top: 7 });
+    assert_eq!(tally, Tally { steps: 9, reason: None, top: 7, added: 0, taken: 0 });
 }
 
 #[test]

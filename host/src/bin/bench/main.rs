@@ -1,8 +1,8 @@
 //! The benchmark: each call of the library as a ratio to the same work in plain Rust, same input, same process, turn by turn.
 //!
-//! `cargo run --release --bin bench` prints three tables: that of step and run, that of a refused step and the other calls, and that of the
-//! textbook engine's step. A step in plain Rust always divides, or, in the first table's second column, skips a division where what it would
-//! divide is 0. All must give the same answers and lists, or it stops.
+//! `cargo run --release --bin bench` prints four tables: that of step and run, that of a refused step and the other calls, that of the
+//! textbook engine's step, and that of 64 pumps beside none. A step in plain Rust always divides, or, in the first table's second column,
+//! skips a division where what it would divide is 0. All must give the same answers and lists, or it stops.
 //! `cargo run --release --bin bench long` runs 10,000 steps on 128×128 and prints what a step costs along the way.
 
 mod clock;
@@ -12,7 +12,7 @@ mod sites;
 
 use clock::{compare, seen};
 use plain::Plain;
-use sites::{register, site, Measured, Water};
+use sites::{pumps, register, site, Measured, Water};
 use std::time::Instant;
 use water::raw::{Card, Window};
 use water::{calls, Refusal};
@@ -40,15 +40,15 @@ fn bench_step(site: &Measured, water: &str) {
     let (mut dividing, mut skipping) = (Plain::<false>::new(), Plain::<true>::new());
     let medians = compare([
         &mut || {
-            assert!(calls::step(*card, ground, state, &mut next).is_ok());
+            assert!(calls::step(*card, ground, state, &[], &mut next).is_ok());
             seen(&mut next);
         },
         &mut || {
-            assert_eq!(dividing.step(*card, ground, state, &mut dividing_next), 0);
+            assert_eq!(dividing.step(*card, ground, state, &[], &mut dividing_next), 0);
             seen(&mut dividing_next);
         },
         &mut || {
-            assert_eq!(skipping.step(*card, ground, state, &mut skipping_next), 0);
+            assert_eq!(skipping.step(*card, ground, state, &[], &mut skipping_next), 0);
             seen(&mut skipping_next);
         },
     ]);
@@ -63,15 +63,15 @@ fn bench_textbook(site: &Measured, water: &str) {
     let mut plain = Plain::<false>::new();
     let medians = compare([
         &mut || {
-            assert!(calls::step_textbook(*card, ground, state, &mut next).is_ok());
+            assert!(calls::step_textbook(*card, ground, state, &[], &mut next).is_ok());
             seen(&mut next);
         },
         &mut || {
-            assert_eq!(plain.step_textbook(*card, ground, state, &mut plain_next), 0);
+            assert_eq!(plain.step_textbook(*card, ground, state, &[], &mut plain_next), 0);
             seen(&mut plain_next);
         },
         &mut || {
-            assert!(calls::step(*card, ground, state, &mut first_next).is_ok());
+            assert!(calls::step(*card, ground, state, &[], &mut first_next).is_ok());
             seen(&mut first_next);
         },
     ]);
@@ -90,11 +90,11 @@ fn bench_refused(site: &Measured, water: &str) {
     let mut plain = Plain::<false>::new();
     let medians = compare([
         &mut || {
-            assert_eq!(calls::step(card, ground, &state, &mut next), Err(Refusal::StepLimit));
+            assert_eq!(calls::step(card, ground, &state, &[], &mut next), Err(Refusal::StepLimit));
             seen(&mut next);
         },
         &mut || {
-            assert_eq!(plain.step(card, ground, &state, &mut plain_next), 4);
+            assert_eq!(plain.step(card, ground, &state, &[], &mut plain_next), 4);
             seen(&mut plain_next);
         },
     ]);
@@ -111,19 +111,19 @@ fn bench_run(site: &Measured, water: &str, steps: u32) {
     let medians = compare([
         &mut || {
             ours.0.copy_from_slice(start);
-            let tally = calls::run(card, ground, &mut ours.0, &mut ours.1);
+            let tally = calls::run(card, ground, &mut ours.0, &[], &mut ours.1);
             assert_eq!((tally.steps, tally.reason), (steps, None));
             seen(&mut ours);
         },
         &mut || {
             divided.0.copy_from_slice(start);
-            let tally = dividing.run(card, ground, &mut divided.0, &mut divided.1);
+            let tally = dividing.run(card, ground, &mut divided.0, &[], &mut divided.1);
             assert_eq!((tally.steps, tally.reason), (steps, 0));
             seen(&mut divided);
         },
         &mut || {
             skipped.0.copy_from_slice(start);
-            let tally = skipping.run(card, ground, &mut skipped.0, &mut skipped.1);
+            let tally = skipping.run(card, ground, &mut skipped.0, &[], &mut skipped.1);
             assert_eq!((tally.steps, tally.reason), (steps, 0));
             seen(&mut skipped);
         },
@@ -200,6 +200,88 @@ fn bench_sheet(site: &Measured, water: &str) {
     row("read a sheet", card.columns, water, 1.0, medians);
 }
 
+/// What 64 pumps cost: our time with them and without, then plain Rust's, in µs, with how many per cent more the pumps take; last, the ratio
+/// with pumps. `per` is how many steps each time is of.
+fn row_of_pumps(work: &str, size: u32, water: &str, per: f64, medians: [f64; 4]) {
+    let [ours, ours_bare, plain, plain_bare] = medians.map(|median| median / per / 1e3);
+    let more = |pumped: f64, bare: f64| 100.0 * (pumped / bare - 1.0);
+    print!("| {work} | {size}×{size} | {water} | {ours:.2} | {ours_bare:.2} | {:+.1} % |", more(ours, ours_bare));
+    println!(" {plain:.2} | {plain_bare:.2} | {:+.1} % | {:.2} |", more(plain, plain_bare), ours / plain);
+}
+
+fn bench_pumped_step(site: &Measured, water: &str) {
+    let Measured { card, ground, state } = site;
+    let pumps = pumps(card);
+    let lists = || (vec![0; state.len()], vec![0; state.len()]);
+    let (mut ours, mut plain_lists, mut plain) = (lists(), lists(), Plain::<false>::new());
+    let mut plain_bare = Plain::<false>::new();
+    let medians = compare([
+        &mut || {
+            assert!(calls::step(*card, ground, state, &pumps, &mut ours.0).is_ok());
+            seen(&mut ours.0);
+        },
+        &mut || {
+            assert!(calls::step(*card, ground, state, &[], &mut ours.1).is_ok());
+            seen(&mut ours.1);
+        },
+        &mut || {
+            assert_eq!(plain.step(*card, ground, state, &pumps, &mut plain_lists.0), 0);
+            seen(&mut plain_lists.0);
+        },
+        &mut || {
+            assert_eq!(plain_bare.step(*card, ground, state, &[], &mut plain_lists.1), 0);
+            seen(&mut plain_lists.1);
+        },
+    ]);
+    assert!(ours == plain_lists && ours.0 != ours.1, "both step alike, and the pumps are felt");
+    row_of_pumps("step, 64 pumps", card.columns, water, 1.0, medians);
+}
+
+fn bench_pumped_run(site: &Measured, water: &str, steps: u32) {
+    let Measured { ground, state: start, .. } = site;
+    let card = Card { steps, ..site.card };
+    let pumps = pumps(&card);
+    let lists = || [start.clone(), vec![0; start.len()]];
+    let (mut ours, mut ours_bare, mut plains, mut plains_bare) = (lists(), lists(), lists(), lists());
+    let (mut plain, mut plain_bare) = (Plain::<false>::new(), Plain::<false>::new());
+    let our_run = |pumps: &[i32], [state, scratch]: &mut [Vec<i32>; 2]| {
+        state.copy_from_slice(start);
+        let tally = calls::run(card, ground, state, pumps, scratch);
+        assert_eq!(
+            (tally.steps, tally.reason, tally.added > 0, tally.taken > 0),
+            (steps, None, !pumps.is_empty(), !pumps.is_empty())
+        );
+    };
+    let plain_run = |plain: &mut Plain<false>, pumps: &[i32], [state, scratch]: &mut [Vec<i32>; 2]| {
+        state.copy_from_slice(start);
+        let tally = plain.run(card, ground, state, pumps, scratch);
+        assert_eq!(
+            (tally.steps, tally.reason, tally.added > 0, tally.taken > 0),
+            (steps, 0, !pumps.is_empty(), !pumps.is_empty())
+        );
+    };
+    let medians = compare([
+        &mut || {
+            our_run(&pumps, &mut ours);
+            seen(&mut ours);
+        },
+        &mut || {
+            our_run(&[], &mut ours_bare);
+            seen(&mut ours_bare);
+        },
+        &mut || {
+            plain_run(&mut plain, &pumps, &mut plains);
+            seen(&mut plains);
+        },
+        &mut || {
+            plain_run(&mut plain_bare, &[], &mut plains_bare);
+            seen(&mut plains_bare);
+        },
+    ]);
+    assert!(ours == plains && ours_bare == plains_bare && ours != ours_bare, "both run alike, and the pumps are felt");
+    row_of_pumps("run with 64 pumps, a step", card.columns, water, f64::from(steps), medians);
+}
+
 /// The longest run there is, in slices of 1,000 steps: a step must not get slower along the way.
 fn long_run() {
     let Measured { ground, mut state, card } = site(128, Water::Moving);
@@ -210,10 +292,10 @@ fn long_run() {
     println!("|---|---|---|---|");
     for slice in 1..=10 {
         let start = Instant::now();
-        let tally = calls::run(card, &ground, &mut state, &mut scratch);
+        let tally = calls::run(card, &ground, &mut state, &[], &mut scratch);
         let ours = start.elapsed().as_secs_f64() * 1e3;
         let start = Instant::now();
-        let plain_tally = plain.run(card, &ground, &mut plain_state, &mut plain_scratch);
+        let plain_tally = plain.run(card, &ground, &mut plain_state, &[], &mut plain_scratch);
         let plain = start.elapsed().as_secs_f64() * 1e3;
         assert_eq!((tally.steps, tally.reason), (1_000, None));
         assert!((plain_tally.steps, plain_tally.top) == (tally.steps, tally.top) && plain_state == state, "both run alike");
@@ -256,5 +338,13 @@ fn main() {
         for water in Water::ALL {
             bench_textbook(&site(size, water), water.name());
         }
+    }
+    println!();
+    println!("| work | site | water | ours, µs | without pumps, µs | pumps cost | plain Rust, µs | without pumps, µs | pumps cost | ratio |");
+    println!("|---|---|---|---|---|---|---|---|---|---|");
+    for (size, steps) in [(8, 500), (128, 20)] {
+        let site = site(size, Water::Moving);
+        bench_pumped_step(&site, "moving");
+        bench_pumped_run(&site, "moving", steps);
     }
 }

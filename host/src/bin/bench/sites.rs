@@ -90,6 +90,12 @@ pub fn site(size: u32, water: Water) -> Measured {
     Measured { card, ground, state }
 }
 
+/// 64 pumps all over a site, by turns one that takes 1 mm a step away and an inlet of as much.
+pub fn pumps(card: &Card) -> Vec<i32> {
+    let cell = |k: usize| (k * 2_654_435_761 % card.cells()) as i32;
+    (0..64).flat_map(|k| [cell(k), if k % 2 == 0 { -1_000 } else { 1_000 }]).collect()
+}
+
 /// A thousand chambers all over a site.
 pub fn register(card: &Card) -> Vec<Chamber> {
     let (width, height) = (u64::from(card.columns * card.dx), u64::from(card.rows * card.dy));

@@ -4,6 +4,7 @@
 //! wrong sign, a flow from the wrong face, a wrong scale. `cargo test --release floats -- --nocapture` prints what it measures.
 
 mod dam_break;
+mod pumps;
 mod scheme;
 mod steps;
 mod still;

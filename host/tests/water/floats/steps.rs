@@ -37,15 +37,15 @@ const FORMS_OFF: f64 = 1e-5;
 
 /// The largest differences, and how many numbers and banks were compared.
 #[derive(Default)]
-struct Seen {
+pub struct Seen {
     height: f64,
     velocity: f64,
     // as a share of what is allowed
     share: f64,
     // between the two forms of the slope
     forms: f64,
-    heights: u64,
-    velocities: u64,
+    pub heights: u64,
+    pub velocities: u64,
     dry: u64,
     // dry banks beside water by both programs, and by one of them only
     banks: u64,
@@ -87,16 +87,16 @@ fn have_bank(ground: &[i32], programs: [&Water; 2], k: usize, l: usize) -> [bool
     banks.map(|bank| bank.is_some())
 }
 
-fn compare_step(site: &Wild, next: &[i32], seen: &mut Seen) {
-    let before = Water::of(&site.card, &site.state);
+/// A step of the site from this water: its own, or what pumps made of it, which is in whole numbers too.
+pub fn compare_step(site: &Wild, before: &Water, next: &[i32], seen: &mut Seen) {
     let ours = Water::of(&site.card, next);
-    let doubles = step(&site.card, &site.ground, &before);
+    let doubles = step(&site.card, &site.ground, before);
     for (&whole, &double) in ours.heights.iter().zip(&doubles.heights) {
         seen.compare_height(whole, double);
     }
     let fastest = before.east.iter().chain(&before.north).fold(0.0, |most: f64, velocity| most.max(velocity.abs()));
     let seconds = f64::from(site.card.dt) / 1_000.0;
-    let by_terms = textbook::step(&site.card, &site.ground, &before).all();
+    let by_terms = textbook::step(&site.card, &site.ground, before).all();
     let (all_ours, all_doubles) = (ours.all(), doubles.all());
     for (place, (k, l)) in site.inner_faces().into_iter().zip(site.cells_beside()) {
         let (whole, double) = (all_ours[place], all_doubles[place]);
@@ -128,10 +128,10 @@ fn compare_step(site: &Wild, next: &[i32], seen: &mut Seen) {
 fn follow(mut site: Wild, steps: u64, seen: &mut Seen) {
     let mut next = vec![0; site.state.len()];
     for _ in 0..steps {
-        if calls::step(site.card, &site.ground, &site.state, &mut next).is_err() {
+        if calls::step(site.card, &site.ground, &site.state, &[], &mut next).is_err() {
             break;
         }
-        compare_step(&site, &next, seen);
+        compare_step(&site, &Water::of(&site.card, &site.state), &next, seen);
         std::mem::swap(&mut site.state, &mut next);
     }
 }
@@ -155,7 +155,7 @@ fn the_step_limit() {
         let site = wild::good(rng);
         let share = leaving(&site.card, &Water::of(&site.card, &site.state));
         let refused =
-            calls::step(site.card, &site.ground, &site.state, &mut vec![0; site.state.len()]) == Err(Refusal::StepLimit);
+            calls::step(site.card, &site.ground, &site.state, &[], &mut vec![0; site.state.len()]) == Err(Refusal::StepLimit);
         if (share - 1.0).abs() > 1e-9 {
             assert_eq!(refused, share > 1.0, "{share} of a cell leaves it: {:?}", site.card);
             told[usize::from(refused)] += 1;
@@ -182,7 +182,7 @@ fn deep_water() {
     assert!(seen.velocity < 6.0);
 }
 
-fn report(what: &str, seen: &Seen) {
+pub fn report(what: &str, seen: &Seen) {
     let Seen { height, velocity, share, forms, heights, velocities, dry, banks, by_one } = seen;
     println!("floats, {what}: {heights} heights off by at most {height:.2} µm");
     println!("floats, {what}: {velocities} velocities off by at most {velocity:.2} µm/s, {dry} dry faces left out");

@@ -7,6 +7,7 @@
 mod bank;
 mod grid;
 mod play;
+mod pumps;
 mod run;
 mod search;
 mod sheet;
@@ -18,11 +19,12 @@ mod turn;
 
 pub use bank::{pairs, still_water, Pair};
 pub use play::play;
+pub use pumps::pumped;
 pub use run::run;
 pub use search::{search, search_lists};
 pub use sheet::{read_sheet, sheet_size, write_sheet};
 pub use site::{cells, check, state_length, sum_of_heights, Site};
-pub use step::{carried_parts, own_shares, step, transfer, Carried};
+pub use step::{advance_unpumped, carried_parts, own_shares, step, transfer, Carried};
 pub use text::depth_text;
 pub use textbook::{step_textbook, Terms};
 pub use turn::{Turn, TURNS};

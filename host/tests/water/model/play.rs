@@ -30,7 +30,8 @@ fn played(input: &[u8]) -> Result<Vec<u8>, u32> {
         return Err(8);
     }
     let mut scratch = vec![0; state.len()];
-    let tally = run(card, &ground, &mut state, &mut scratch);
+    // a sheet has no pumps
+    let tally = run(card, &ground, &mut state, &[], &mut scratch);
     let mut lines = format!("steps {} reason {} top {}\n", tally.steps, tally.reason, tally.top);
     for row in state[..cells(&card)].chunks(card.columns as usize) {
         let texts: Vec<String> = row.iter().map(|&height| text(height)).collect();

@@ -1,9 +1,11 @@
 //! "One step": transfers first, then heights, then velocities, which use old transfers and new heights. A dry bank is one by its new
-//! height and the other cell's new surface. Both engines' steps are made here; textbook.rs has what the second one does in another way.
+//! height and the other cell's new surface. Both engines' steps are made here; textbook.rs has what the second one does in another way, and
+//! pumps.rs what pumps do before either.
 
 use super::bank::{Cell, Pair};
 use super::grid::Grid;
-use super::site::{check_with, Site, HEIGHTS, VELOCITIES};
+use super::pumps::{check_pumped, pumped, Pumped};
+use super::site::{Site, HEIGHTS, VELOCITIES};
 use water::raw::Card;
 
 /// Standard gravity in µm/s².
@@ -231,14 +233,40 @@ pub fn carried_parts(site: &Site) -> Vec<Option<Carried>> {
     Moving::of(site).inner_faces().iter().map(|face| (!face.stands_still()).then(|| carried(face))).collect()
 }
 
-/// One step of a site that passes the first three checks: the next state, or the lowest of 4, 5 and 7 that applies.
-pub fn advance(site: &Site) -> Result<Vec<i32>, u32> {
-    advance_by(rise, site)
+/// An accepted step: the next state, and what the pumps before it added and took.
+pub struct Step {
+    pub next: Vec<i32>,
+    pub added: i128,
+    pub taken: i128,
 }
 
-fn advance_by(rise: Rise, site: &Site) -> Result<Vec<i32>, u32> {
+/// One step with pumps of a site that passes the first three checks with them, or the lowest of 4, 5 and 7 that applies.
+pub fn advance(site: &Site, pumps: &[i32]) -> Result<Step, u32> {
+    advance_by(rise, site, pumps)
+}
+
+/// The limit is one of velocities, which no pump changes, and comes first; then each inlet at its turn; then the step from the pumped state.
+fn advance_by(rise: Rise, site: &Site, pumps: &[i32]) -> Result<Step, u32> {
+    if !keeps_step_limit(site) {
+        return Err(4);
+    }
+    let Pumped { state, added, taken } = pumped(pumps, site.state).ok_or(5u32)?;
+    let next = advance_from(rise, &Site { state: &state, ..*site })?;
+    Ok(Step { next, added, taken })
+}
+
+fn keeps_step_limit(site: &Site) -> bool {
+    (0..site.rows()).all(|j| (0..site.columns()).all(|i| within_step_limit(site, i, j)))
+}
+
+/// One step without pumps.
+pub fn advance_unpumped(site: &Site) -> Result<Vec<i32>, u32> {
+    advance_from(rise, site)
+}
+
+fn advance_from(rise: Rise, site: &Site) -> Result<Vec<i32>, u32> {
     let (columns, rows) = (site.columns(), site.rows());
-    if !(0..rows).all(|j| (0..columns).all(|i| within_step_limit(site, i, j))) {
+    if !keeps_step_limit(site) {
         return Err(4);
     }
     let moving = Moving::of(site);
@@ -268,20 +296,20 @@ fn advance_by(rise: Rise, site: &Site) -> Result<Vec<i32>, u32> {
 }
 
 /// The call: refused, the next state is as lent.
-pub fn step(card: Card, ground: &[i32], state: &[i32], next: &mut [i32]) -> u32 {
-    step_by(rise, card, ground, state, next)
+pub fn step(card: Card, ground: &[i32], state: &[i32], pumps: &[i32], next: &mut [i32]) -> u32 {
+    step_by(rise, card, ground, state, pumps, next)
 }
 
 /// Either engine's call.
-pub fn step_by(rise: Rise, card: Card, ground: &[i32], state: &[i32], next: &mut [i32]) -> u32 {
+pub fn step_by(rise: Rise, card: Card, ground: &[i32], state: &[i32], pumps: &[i32], next: &mut [i32]) -> u32 {
     let site = Site { card, ground, state };
-    let number = check_with(&site, next.len() == state.len(), || true);
+    let number = check_pumped(&site, pumps, next.len() == state.len());
     if number != 0 {
         return number;
     }
-    match advance_by(rise, &site) {
-        Ok(filled) => {
-            next.copy_from_slice(&filled);
+    match advance_by(rise, &site, pumps) {
+        Ok(step) => {
+            next.copy_from_slice(&step.next);
             0
         }
         Err(number) => number,

@@ -38,6 +38,6 @@ impl Terms {
 }
 
 /// The call: refused, the next state is as lent.
-pub fn step_textbook(card: Card, ground: &[i32], state: &[i32], next: &mut [i32]) -> u32 {
-    step_by(|new| Terms::of(new).quotient(), card, ground, state, next)
+pub fn step_textbook(card: Card, ground: &[i32], state: &[i32], pumps: &[i32], next: &mut [i32]) -> u32 {
+    step_by(|new| Terms::of(new).quotient(), card, ground, state, pumps, next)
 }

@@ -2,7 +2,7 @@
 
 use crate::wild::Wild;
 use water::raw::{Card, Chamber, Window};
-use water::{calls, Refusal};
+use water::{calls, Pump, Refusal, Site};
 
 pub type Call = Box<dyn FnMut() -> Result<(), Refusal> + Send>;
 
@@ -51,22 +51,46 @@ pub fn nothing() -> Wild {
     Wild { card: Card::default(), ground: vec![], state: vec![] }
 }
 
-pub fn step(site: Wild) -> Call {
-    let mut next = vec![0; site.state.len()];
-    Box::new(move || calls::step(site.card, &site.ground, &site.state, &mut next))
+/// One that is filled to the top: refusal 5 where an inlet works on its last cell.
+pub fn full(side: u32) -> Wild {
+    let mut site = site(side);
+    let cells = site.ground.len();
+    site.state[..cells].fill(50_000_000);
+    site
 }
 
-pub fn step_textbook(site: Wild) -> Call {
-    let mut next = vec![0; site.state.len()];
-    Box::new(move || calls::step_textbook(site.card, &site.ground, &site.state, &mut next))
+/// So many pumps on the last cell, by turns an inlet and a pump that takes; each word but the last of an odd list is right.
+pub fn pumps(site: &Wild, words: usize) -> Vec<i32> {
+    let last = site.ground.len() as i32 - 1;
+    let mut pumps: Vec<i32> = (0..words / 2).flat_map(|k| [last, if k % 2 == 0 { 1_000 } else { -900 }]).collect();
+    pumps.resize(words, 0);
+    pumps
 }
 
-pub fn run(mut site: Wild) -> Call {
+pub fn step(site: Wild, pumps: Vec<i32>) -> Call {
+    let mut next = vec![0; site.state.len()];
+    Box::new(move || calls::step(site.card, &site.ground, &site.state, &pumps, &mut next))
+}
+
+pub fn step_textbook(site: Wild, pumps: Vec<i32>) -> Call {
+    let mut next = vec![0; site.state.len()];
+    Box::new(move || calls::step_textbook(site.card, &site.ground, &site.state, &pumps, &mut next))
+}
+
+pub fn run(mut site: Wild, pumps: Vec<i32>) -> Call {
     let mut scratch = vec![0; site.state.len()];
     Box::new(move || {
-        let tally = calls::run(site.card, &site.ground, &mut site.state, &mut scratch);
+        let tally = calls::run(site.card, &site.ground, &mut site.state, &pumps, &mut scratch);
         tally.reason.map_or(Ok(()), Err)
     })
+}
+
+/// The step of a site that owns its lists, with so many pumps.
+pub fn site_step(side: u32, pumps: usize) -> Call {
+    let Wild { card, ground, state } = site(side);
+    let mut site = Site::new(card, ground, state).expect("a good site");
+    let pumps = vec![Pump { column: side - 1, row: 0, amount: 5 }; pumps];
+    Box::new(move || site.step_with(&pumps))
 }
 
 const EVERYWHERE: Window = Window { west: 0.0, south: 0.0, east: 128e6, north: 128e6 };

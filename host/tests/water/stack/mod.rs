@@ -1,12 +1,14 @@
 //! How much stack each call takes: what `include/water.h` names and no more, whatever the input, on a small site, and where it is refused.
 //!
 //! The numbers stand in the header's table alone; the page of the package must have the same. Each case is run twice: on a painted
-//! stack, which shows how deep it went, and in a thread that has as much stack as is named and what a thread takes for itself.
+//! stack, which shows how deep it went, and in a thread that has as much stack as is named and what a thread takes for itself. Calls with
+//! pumps, and every other one on the largest site, are made in a thread of 640,000 bytes besides, thread and all (whole.rs).
 //! `cargo test --release stack -- --nocapture` prints what each case took.
 
 mod cases;
 #[cfg(target_arch = "x86_64")]
 mod painted;
+mod whole;
 
 use crate::wild::Wild;
 use cases::Call;
@@ -15,6 +17,11 @@ use water::Refusal;
 
 /// What a thread has beside: the least that Linux gives one, which holds what Rust does before and after the call.
 const THREAD: usize = 16_384;
+
+/// A step or a run of a site with pumps.
+type Made = fn(Wild, Vec<i32>) -> Call;
+
+const STEPS: [(&str, Made); 2] = [("water_step", cases::step), ("water_step_textbook", cases::step_textbook)];
 
 #[derive(Clone, Copy, Debug, PartialEq)]
 struct Named {
@@ -64,10 +71,11 @@ fn holds(case: &str, named: usize, answer: Result<(), Refusal>, make: impl Fn() 
 
 #[test]
 fn steps_take_what_is_named() {
-    for (name, step) in [("water_step", cases::step as fn(_) -> Call), ("water_step_textbook", cases::step_textbook)] {
+    for (name, step) in STEPS {
         let named = header(name);
-        let holds =
-            |case: &str, named, answer, site: fn() -> Wild| holds(&format!("{name}, {case}"), named, answer, || step(site()));
+        let holds = |case: &str, named, answer, site: fn() -> Wild| {
+            holds(&format!("{name}, {case}"), named, answer, || step(site(), vec![]))
+        };
         holds("128×128", named.any, Ok(()), || cases::site(128));
         holds("128×128, refused with 4", named.any, Err(Refusal::StepLimit), || cases::too_fast(128));
         holds("32×32", named.small, Ok(()), || cases::site(32));
@@ -83,14 +91,46 @@ fn steps_take_what_is_named() {
 #[test]
 fn run_takes_what_is_named() {
     let named = header("water_run");
-    holds("run, 128×128", named.any, Ok(()), || cases::run(cases::site(128)));
-    holds("run, 128×128, stopped by 4", named.any, Err(Refusal::StepLimit), || cases::run(cases::too_fast(128)));
-    holds("run, 32×32", named.small, Ok(()), || cases::run(cases::site(32)));
-    holds("run, 8×8", named.small, Ok(()), || cases::run(cases::site(8)));
-    holds("run, an empty card", named.refused, Err(Refusal::Card), || cases::run(cases::nothing()));
-    holds("run, a bad card", named.refused, Err(Refusal::Card), || cases::run(cases::no_time(128)));
-    holds("run, lists too short", named.refused, Err(Refusal::Length), || cases::run(cases::short(128)));
-    holds("run, a bad value", named.refused, Err(Refusal::Value), || cases::run(cases::bad(128)));
+    let holds = |case: &str, named, answer, site: fn() -> Wild| {
+        holds(&format!("run, {case}"), named, answer, || cases::run(site(), vec![]))
+    };
+    holds("128×128", named.any, Ok(()), || cases::site(128));
+    holds("128×128, stopped by 4", named.any, Err(Refusal::StepLimit), || cases::too_fast(128));
+    holds("32×32", named.small, Ok(()), || cases::site(32));
+    holds("8×8", named.small, Ok(()), || cases::site(8));
+    holds("an empty card", named.refused, Err(Refusal::Card), cases::nothing);
+    holds("a bad card", named.refused, Err(Refusal::Card), || cases::no_time(128));
+    holds("lists too short", named.refused, Err(Refusal::Length), || cases::short(128));
+    holds("a bad value", named.refused, Err(Refusal::Value), || cases::bad(128));
+}
+
+/// Pumps that are refused with 1, 2 or 3 take no more than other refusals do.
+#[test]
+fn refused_pumps_take_what_is_named() {
+    for (name, call) in STEPS.into_iter().chain([("water_run", cases::run as Made)]) {
+        let named = header(name).refused;
+        let holds = |case: &str, answer, words: usize, change: fn(&mut Vec<i32>)| {
+            holds(&format!("{name}, {case}"), named, Err(answer), || {
+                let site = cases::site(128);
+                let mut pumps = cases::pumps(&site, words);
+                change(&mut pumps);
+                call(site, pumps)
+            })
+        };
+        holds("65 pumps", Refusal::Card, 130, |_| ());
+        holds("a word left over", Refusal::Length, 129, |_| ());
+        holds("a cell that is not there", Refusal::Value, 128, |pumps| pumps[126] += 1);
+        holds("an amount out of range", Refusal::Value, 128, |pumps| pumps[127] = 1_000_001);
+    }
+}
+
+/// A site takes what its call takes, and 1,000 more for the list of its pumps, as the package's page says.
+#[test]
+fn a_site_takes_what_its_call_takes() {
+    let (named, list) = (header("water_step"), 1_000);
+    holds("a site's step, 128×128", named.any + list, Ok(()), || cases::site_step(128, 0));
+    holds("a site's step, 8×8", step_of_800_words() + list, Ok(()), || cases::site_step(8, 0));
+    holds("a site's step, 65 pumps", named.refused + list, Err(Refusal::Card), || cases::site_step(128, 65));
 }
 
 #[test]

@@ -1,13 +1,15 @@
-//! Random sites: good ones of every temper, ponds and shores, sites on the brink of a refusal, and sites that were hurt.
+//! Random sites: good ones of every temper, ponds and shores, sites on the brink of a refusal, and sites that were hurt; and pumps for them.
 
 mod brink;
 mod hurt;
 mod pond;
+mod pumps;
 mod shore;
 mod site;
 
 pub use brink::of_share;
 pub use pond::{pond, with_shore};
+pub use pumps::{any_pumps, pumps};
 pub use shore::{sloshing, terraces};
 pub use site::Wild;
 

@@ -2,6 +2,7 @@
 //! divisions a face (four by the textbook engine), buffers made once and used again. The benchmark measures the library beside it; a test
 //! holds it to the model.
 
+mod pumps;
 mod search;
 mod sheet;
 mod site;

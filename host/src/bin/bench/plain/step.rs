@@ -1,18 +1,22 @@
 //! The step, by both engines, and the run. `tide` holds the new heights and what crosses each face, in the state's own layout. One flag says
 //! whether a division is left out where what it would divide is 0; without it each inner face divides once for what crosses it and, where
 //! there is water and no dry bank, twice for its new velocity. The other flag says whether the step is the textbook engine's, which there
-//! divides once more.
+//! divides once more. Pumps act on a copy of a step's heights, and in a run on the heights themselves, where a refused step undoes them.
 
-use super::site::{check, speed_fits};
+use super::pumps::{self, Moved, Turns};
+use super::site::{self, speed_fits};
 use water::raw::{Card, Tally};
 
 /// The buffers of a step, made once.
 pub struct Plain<const SKIPS: bool> {
     tide: Vec<i32>,
     draft: Vec<i32>,
+    pumped: Vec<i32>,
+    turns: Turns,
 }
 
 /// The parts of a list that is laid out as a state.
+#[derive(Clone, Copy)]
 struct Parts<'a> {
     heights: &'a [i32],
     east: &'a [i32],
@@ -26,48 +30,86 @@ fn parts<'a>(card: &Card, list: &'a [i32]) -> Parts<'a> {
     Parts { heights, east, north }
 }
 
+/// 1, 2, 3 or 0, the lowest that applies to site and pumps.
+fn check(card: &Card, ground: &[i32], state: &[i32], pumps: &[i32], more_lengths: bool) -> u32 {
+    let of_site = site::check(card, ground, state, more_lengths);
+    if pumps.is_empty() || of_site == 1 {
+        return of_site;
+    }
+    match (of_site, pumps::check(card, pumps)) {
+        (0, number) | (number, 0) => number,
+        (one, other) => one.min(other),
+    }
+}
+
 impl<const SKIPS: bool> Plain<SKIPS> {
     pub fn new() -> Plain<SKIPS> {
-        Plain { tide: vec![0; 49_408], draft: vec![0; 49_408] }
+        Plain { tide: vec![0; 49_408], draft: vec![0; 49_408], pumped: vec![0; 16_384], turns: Turns::new() }
     }
 
-    pub fn step(&mut self, card: Card, ground: &[i32], state: &[i32], next: &mut [i32]) -> u32 {
-        self.step_by::<false>(card, ground, state, next)
+    pub fn step(&mut self, card: Card, ground: &[i32], state: &[i32], pumps: &[i32], next: &mut [i32]) -> u32 {
+        self.step_by::<false>(card, ground, state, pumps, next)
     }
 
-    pub fn step_textbook(&mut self, card: Card, ground: &[i32], state: &[i32], next: &mut [i32]) -> u32 {
-        self.step_by::<true>(card, ground, state, next)
+    pub fn step_textbook(&mut self, card: Card, ground: &[i32], state: &[i32], pumps: &[i32], next: &mut [i32]) -> u32 {
+        self.step_by::<true>(card, ground, state, pumps, next)
     }
 
-    fn step_by<const TEXTBOOK: bool>(&mut self, card: Card, ground: &[i32], state: &[i32], next: &mut [i32]) -> u32 {
-        let mut number = check(&card, ground, state, next.len() == state.len());
-        if number == 0 {
-            let draft = &mut self.draft[..state.len()];
-            number = advance::<SKIPS, TEXTBOOK>(&card, ground, state, &mut self.tide[..state.len()], draft);
-            if number == 0 {
-                next.copy_from_slice(draft);
+    fn step_by<const TEXTBOOK: bool>(
+        &mut self,
+        card: Card,
+        ground: &[i32],
+        state: &[i32],
+        pumps: &[i32],
+        next: &mut [i32],
+    ) -> u32 {
+        let mut number = check(&card, ground, state, pumps, next.len() == state.len());
+        if number != 0 {
+            return number;
+        }
+        let (tide, draft) = (&mut self.tide[..state.len()], &mut self.draft[..state.len()]);
+        let mut from = parts(&card, state);
+        if !pumps.is_empty() {
+            let pumped = &mut self.pumped[..ground.len()];
+            pumped.copy_from_slice(from.heights);
+            if self.turns.pump(pumped, pumps).is_none() {
+                return past_the_top(&card, &from);
             }
+            from.heights = pumped;
+        }
+        number = advance::<SKIPS, TEXTBOOK>(&card, ground, from, tide, draft);
+        if number == 0 {
+            next.copy_from_slice(draft);
         }
         number
     }
 
-    pub fn run(&mut self, card: Card, ground: &[i32], state: &mut [i32], scratch: &mut [i32]) -> Tally {
-        let reason = check(&card, ground, state, scratch.len() == state.len());
+    pub fn run(&mut self, card: Card, ground: &[i32], state: &mut [i32], pumps: &[i32], scratch: &mut [i32]) -> Tally {
+        let reason = check(&card, ground, state, pumps, scratch.len() == state.len());
         if reason != 0 {
-            return Tally { steps: 0, reason, top: 0 };
+            return Tally { reason, ..Tally::default() };
         }
         let tide = &mut self.tide[..state.len()];
         let cells = ground.len();
         let greatest = |state: &[i32]| state[..cells].iter().fold(0, |top, &height| top.max(height));
-        let mut tally = Tally { steps: 0, reason: 0, top: greatest(state) };
+        let mut tally = Tally { top: greatest(state), ..Tally::default() };
         // the two lists change places with every step
         let (mut now, mut then) = (state, scratch);
         while tally.steps < card.steps {
-            tally.reason = advance::<SKIPS, false>(&card, ground, now, tide, then);
+            let moved = self.turns.pump(&mut now[..cells], pumps);
+            let from = parts(&card, now);
+            tally.reason = match moved {
+                Some(_) => advance::<SKIPS, false>(&card, ground, from, tide, then),
+                None => past_the_top(&card, &from),
+            };
             if tally.reason != 0 {
+                self.turns.undo(&mut now[..cells], pumps);
                 break;
             }
+            let Moved { added, taken } = moved.unwrap_or_default();
             std::mem::swap(&mut now, &mut then);
+            tally.added += added;
+            tally.taken += taken;
             tally.steps += 1;
             tally.top = tally.top.max(greatest(now));
         }
@@ -79,6 +121,15 @@ impl<const SKIPS: bool> Plain<SKIPS> {
         };
         scratch.fill(0);
         tally
+    }
+}
+
+/// The number where an inlet takes its cell past the top: a broken step limit comes before it.
+fn past_the_top(card: &Card, state: &Parts) -> u32 {
+    if limit_kept(card, state) {
+        5
+    } else {
+        4
     }
 }
 
@@ -304,12 +355,11 @@ fn northward<const SKIPS: bool, const TEXTBOOK: bool>(
 fn advance<const SKIPS: bool, const TEXTBOOK: bool>(
     card: &Card,
     ground: &[i32],
-    state: &[i32],
+    old: Parts,
     tide: &mut [i32],
     next: &mut [i32],
 ) -> u32 {
     let (columns, rows) = (card.columns as usize, card.rows as usize);
-    let old = parts(card, state);
     if !limit_kept(card, &old) {
         return 4;
     }
