@@ -14,7 +14,7 @@
  * at most what it holds. A face that lets water into a cell does not count there, so water may pass through.
  *
  * Dry banks: where one of a face's cells is dry after a step and its ground is at or above the other's new surface (height plus
- * ground), the new velocity is 0. So still water with a shore stays as it is: all velocities 0, one surface over neighbouring wet
+ * ground), the new velocity is 0. So without pumps still water with a shore stays as it is: all velocities 0, one surface over neighbouring wet
  * cells, and the ground of each dry cell at or above the surface of its wet neighbours.
  *
  * Lists: rows run south to north, and within a row west to east. Ground is columns*rows words. A state is columns*rows heights,

@@ -47,7 +47,7 @@ fn done<T>(number: u32, needed: usize, answer: T) -> Result<T, Refusal> {
 /// calls::step(card, &[0, 1_500_000], &pond, &[], &mut next)?;
 /// assert_eq!(next, pond);
 ///
-/// // a pump on cell 0 takes what is there, 1 m of the 1.5 m that it could; an inlet on cell 1 adds 1 cm
+/// // two pumps on cell 0 take what is there, 1 m of the 1.5 m that they could; an inlet on cell 1 adds 1 cm
 /// calls::step(card, &[0, 0], &[1_000_000, 0, 0, 0, 0, 0, 0, 0, 0], &[0, -1_000_000, 0, -500_000, 1, 10_000], &mut next)?;
 /// assert_eq!(next, [0, 10_000, 0, -9_806, 0, 0, 0, 0, 0]);
 ///

@@ -1,5 +1,5 @@
 -- What a sound site gives a step that works in a draft, and what it hands over: 0 and the next state, or 4, 5 or 7 and the next state as lent.
-use mathlib.Core.Path.{_≡_, _∙_, sym, ap}
+use mathlib.Core.Path.{_≡_, _∙_, ap}
 use mathlib.Core.List.{List, _++_}
 use Prim.Native.Nat.{ℕ, _≤_}
 use native.Mathlib.Omega.{arith}

@@ -1,13 +1,11 @@
 -- The same with pumps: the front of the copy holds the state, and what the pumped step made stands in the front of the draft.
 use mathlib.Core.Path.{_≡_, _∙_, sym, ap, subst}
 use mathlib.Core.List.{List, _++_}
-use Prim.Native.Nat.{ℕ, _≤_}
 use native.Mathlib.Omega.{arith}
 use lib.IntN.{ℤ}
 use lib.ListN.{length, take, drop}
 use lib.Seq.{length-take-le, take-at}
 use Rattle.rules.specs.declared.Card.{Card}
-use Rattle.rules.specs.Site.{stateLength}
 use Rattle.rules.specs.Step.{Rule}
 use Rattle.rules.specs.Pumps.{pumpedStepBy}
 use Rattle.laws.specs.Facts.{Sound, sound-facts}

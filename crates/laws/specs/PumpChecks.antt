@@ -1,12 +1,12 @@
 -- What the first three checks say of a site with pumps, as facts that a proof can use.
-use Prim.Native.Nat.{ℕ, _≤_}
+use Prim.Native.Nat.{_≤_}
 use mathlib.Core.Path.{_≡_, refl, ap, _∙_}
-use mathlib.Core.Bool.{Bool, true, false, _&&_, and-assoc, and-comm, and-self}
+use mathlib.Core.Bool.{Bool, true, _&&_, and-assoc, and-comm, and-self}
 use mathlib.Core.List.{List, []}
 use native.Mathlib.Omega.{arith}
 use lib.IntN.{ℤ}
 use lib.ListN.{length}
-use lib.Dec.{T, eqb, leb→le, eqb→eq}
+use lib.Dec.{eqb, leb→le, eqb→eq}
 use borrow.Author.Tests.{eq-eqb}
 use Rattle.rules.specs.declared.Card.{Card}
 use Rattle.rules.specs.Grid.{all}

@@ -1,26 +1,25 @@
 -- What pumps do to a sound site (document 02, [10]): each at its turn, the first n of a list, and all of them. The site stays sound where no inlet passes the top, no
 -- velocity changes, and what was added and taken is what the sum of heights gained.
 use Prim.Native.Nat.{ℕ, zero, suc, _+_, _-_, _*_, _≤_, _<_}
-use mathlib.Core.Path.{_≡_, refl, sym, ap, _∙_, subst}
-use mathlib.Core.Bool.{Bool, true, false, cond, _&&_}
+use mathlib.Core.Path.{_≡_, refl, sym, ap, _∙_}
+use mathlib.Core.Bool.{Bool, true, false, cond}
 use mathlib.Core.List.{List}
 use native.Mathlib.Nat.{le-refl, le-trans}
 use native.Mathlib.Omega.{arith}
 use lib.IntN.{ℤ, pos, negsuc, natAbs, _+ℤ_, _-ℤ_, +ℤ-assoc, +ℤ-negℤ-cancel, -ℤ-+ℤ-cancel}
 use lib.Signed.{leZ, ltZ}
-use lib.ListN.{length, getD, set, length-set}
+use lib.ListN.{length, length-set}
 use lib.Dec.{T, leb, ltb, leb→le, ltb→lt, le→leb, nleb→lt}
 use lib.Arith.{le→nltb}
 use Rattle.rules.specs.declared.Card.{Card}
-use Rattle.rules.specs.Grid.{all}
-use Rattle.rules.specs.Site.{cells, readState, sumOfHeights, heightFits}
-use Rattle.rules.specs.Step.{forward, backward, limitKept}
+use Rattle.rules.specs.Site.{cells, readState, sumOfHeights}
+use Rattle.rules.specs.Step.{backward, limitKept}
 use Rattle.rules.specs.Pumps.{Pump, pumpAt, pumpCount, pumpFits, pumpsFit, adds, takes, heightAfter, heightAt, afterPump, afterPumps, finds, addsUpTo, takesUpTo, pumped, addedBy, takenBy, turnFits, inletsFit}
 use Rattle.laws.specs.Tests.{false-of, to-T, and-both, three-of}
 use Rattle.laws.specs.Numbers.{sums}
 use Rattle.laws.specs.Grids.{all-at}
 use Rattle.laws.specs.Outward.{forward-size, backward-size}
-use Rattle.laws.specs.Facts.{Sound, length-facts, sound-facts}
+use Rattle.laws.specs.Facts.{Sound, sound-facts}
 use Rattle.laws.specs.Stored.{SameFaces, faces-stored, faces-then, limit-same, sound-stored, sum-stored}
 
 -- ---- a balance: the sum is Z now, and so much was added and taken since it was S

@@ -1,15 +1,15 @@
 -- The pumped step over the step that it wraps: its number taken apart, what an accepted one keeps, that without pumps it is the step, and that it follows another where
 -- the wrapped step does.
 use Prim.Native.Nat.{ℕ}
-use mathlib.Core.Path.{_≡_, refl, sym, ap, _∙_, subst}
+use mathlib.Core.Path.{_≡_, refl, sym, ap, _∙_}
 use mathlib.Core.Bool.{Bool, true, false, cond}
 use mathlib.Core.List.{List, []}
 use native.Mathlib.Nat.{suc-ne-zero, pos-of-ne-zero}
 use lib.IntN.{ℤ, pos}
 use Rattle.rules.specs.declared.Card.{Card}
 use Rattle.rules.specs.Grid.{all}
-use Rattle.rules.specs.Site.{readGround, readState, firstRefusal}
-use Rattle.rules.specs.Step.{Rule, limitKept, newHeightsFit, newVelocitiesFit, answer, number, stepNumberBy, nextStateBy}
+use Rattle.rules.specs.Site.{readState, firstRefusal}
+use Rattle.rules.specs.Step.{Rule, limitKept, answer, number, stepNumberBy, nextStateBy}
 use Rattle.rules.specs.Run.{Stepping, peak, runFrom, history, siteStepBy}
 use Rattle.rules.specs.Pumps.{afterPumps, pumped, inletsFit, pumpedNumber, pumping, pumpedStepBy, pumpedStep, addedOver, takenOver, progressOf, reported, pumpedRunAfter}
 use Rattle.laws.specs.Facts.{Sound}

@@ -12,8 +12,8 @@ use lib.ListN.{length, getD, set, length-set}
 use lib.Seq.{getD-set-same, getD-set-other}
 use lib.Dec.{T, eqb, eqb→eq, eqb-refl}
 use Rattle.rules.specs.declared.Card.{Card}
-use Rattle.rules.specs.Grid.{Field, grid, all, sum, sumAt}
-use Rattle.rules.specs.Site.{Water, cells, stateLength, readGround, readState, writeState, sumOfHeights, heightFits, groundsFit, heightsFit, velocitiesFit, wallsStill, valuesFit, lengthsFit}
+use Rattle.rules.specs.Grid.{Field, grid, sum, sumAt}
+use Rattle.rules.specs.Site.{Water, cells, readGround, readState, writeState, sumOfHeights, heightFits, groundsFit, heightsFit, velocitiesFit, wallsStill, valuesFit, lengthsFit}
 use Rattle.rules.specs.Step.{withinLimit, limitKept}
 use Rattle.rules.proofs.Sums.{sum-same}
 use Rattle.laws.specs.Tests.{true-of, to-T, four-of, of-four}

@@ -1,17 +1,15 @@
 -- A run that passed the first three checks never meets 1 to 3 in its middle: its end state passes them too, with its pumps, and its reason is 0 or one of 4, 5 and 7.
 -- And it does what it says: no more steps than wanted, all of them exactly where the reason is 0.
 use Prim.Native.Nat.{ℕ}
-use mathlib.Core.Path.{_≡_, sym, ap, _∙_, subst}
+use mathlib.Core.Path.{_≡_, sym, subst}
 use mathlib.Core.Bool.{Bool, true, false}
 use mathlib.Core.List.{List}
 use lib.IntN.{ℤ}
 use Rattle.rules.specs.declared.Card.{Card}
 use Rattle.rules.specs.Site.{firstRefusal, readGround, readState}
-use Rattle.rules.specs.Step.{Rule, answer, limitKept, newHeightsFit, newVelocity, newVelocitiesFit, number, stepNumberBy, stepNumber}
-use Rattle.rules.specs.Run.{Outcome, runFrom}
+use Rattle.rules.specs.Step.{answer, limitKept, newHeightsFit, newVelocity, newVelocitiesFit, number, stepNumberBy, stepNumber}
 use Rattle.rules.specs.Pumps.{checkPumped, pumped, inletsFit, pumpedNumber, pumpedStep, progressOf, PumpedOutcome, pumpedRun}
-use Rattle.laws.specs.PumpChecks.{PumpsPass, checked, to-checked}
-use Rattle.laws.specs.Counting.{counting, uncounted, told}
+use Rattle.laws.specs.PumpChecks.{checked, to-checked}
 use Rattle.laws.specs.PumpedSteps.{numberOf, keeps-pumped, pumped-progress}
 use Rattle.promises.specs.Endings.{EndsAs, Proper, ends-as}
 

@@ -14,9 +14,9 @@ use lib.Dec.{T}
 use Rattle.rules.specs.declared.Card.{Card}
 use Rattle.rules.specs.Grid.{Field}
 use Rattle.rules.specs.Site.{Water, checkAlso, check, firstRefusal, readGround, readState}
-use Rattle.rules.specs.Step.{Rule, eastFace, northFace, ownShare, newVelocity, limitKept, newHeightsFit, newVelocitiesFit, answer, number, stepNumberBy, stepNumber, nextState}
-use Rattle.rules.specs.Run.{Stepping, peak, siteStep, runFrom}
-use Rattle.rules.specs.Pumps.{checkPumped, checkPumpedWith, pumping, pumpedStep, PumpedOutcome, pumpedRunAfter, pumpedRun}
+use Rattle.rules.specs.Step.{Rule, eastFace, northFace, ownShare, newVelocity, limitKept, newHeightsFit, newVelocitiesFit, answer, number, stepNumberBy, nextState}
+use Rattle.rules.specs.Run.{Stepping, peak, siteStep, runFrom, history}
+use Rattle.rules.specs.Pumps.{checkPumped, checkPumpedWith, pumping, pumpedStep, reported, PumpedOutcome, pumpedRunAfter, pumpedRun}
 use Rattle.rules.specs.Calls.{stepAnswer, runOutcome, runTally, stepAnswerBy}
 use Rattle.laws.specs.Tests.{true-of, to-T}
 use Rattle.laws.specs.Checks.{at-most-3}
@@ -26,7 +26,7 @@ use Rattle.laws.specs.Keeps.{keeps}
 use Rattle.laws.specs.Follows.{Follows, Always, follows}
 use Rattle.laws.specs.Pumped.{sound-pumped}
 use Rattle.laws.specs.PumpChecks.{PumpsPass, checked, checked-of-with}
-use Rattle.laws.specs.Counting.{uncounted, told, counting, counting-follows}
+use Rattle.laws.specs.Counting.{uncounted, told, counting, counted, counting-follows}
 use Rattle.laws.specs.PumpedSteps.{pumping-follows, pumped-run, pumped-refused}
 use Rattle.laws.specs.Outcomes.{first-same}
 use Rattle.promises.specs.InnerFaces.{EveryInner, everyInner, inner-intro}
@@ -123,15 +123,19 @@ pumped-without-6 c g ps pass =
       states = λ s e. refl;
     })
 
--- and its run is the same; of the call, lent a scratch list as long as its state, whatever its pumps
+-- and its run is the same, with what its history adds and takes; of the call, lent a scratch list as long as its state, whatever its pumps
+abbrev pub pumpedStepWith6 : Card → (ground pumps : List ℤ) → Stepping
+pumpedStepWith6 c g ps = pumping c ps (stepWith6 c g)
+
 pub run-without-6 : (c : Card) (g s ps scratch : List ℤ) → checkPumped c g s ps ≡ 0 → length scratch ≡ length s
-    → runOutcome c g s ps scratch ≡ told (runFrom (counting ps (pumping c ps (stepWith6 c g))) (c .steps) (uncounted s))
+    → runOutcome c g s ps scratch ≡ reported ps (history (pumpedStepWith6 c g ps) (c .steps) s) (runFrom (pumpedStepWith6 c g ps) (c .steps) s)
 unfolding pumpedRun
 run-without-6 c g s ps scratch e l =
     let p = checked c g s ps e in
     call-runs c g s ps scratch l
     ∙ pumped-run c g s ps (checkPumped c g s ps) e
     ∙ ap told (sym (follows (counting-follows ps ps (pumped-without-6 c g ps (p .pumps)) refl (λ v q z. refl)) (c .steps) (uncounted s) (sound-check c g s (p .sound)) tt))
+    ∙ sym (counted ps (pumpedStepWith6 c g ps) (c .steps) s)
 
 -- ---- Of the step and the run, whatever they are lent: every answer stays, and none is 6. (No other call gives the numbers of a step.)
 

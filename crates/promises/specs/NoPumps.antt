@@ -2,14 +2,16 @@
 -- is promised of these is promised of the calls that are lent no pumps: still water stays ([2], StillWater.antt), and the sum of heights is kept ([8], WaterKept.antt).
 use Prim.Native.Nat.{ℕ}
 use mathlib.Core.Path.{_≡_, refl, ap, _∙_}
+use mathlib.Core.Bool.{true}
 use mathlib.Core.List.{List, [], _∷_}
 use lib.IntN.{ℤ}
+use lib.Dec.{eqb}
 use Rattle.rules.specs.declared.Card.{Card}
-use Rattle.rules.specs.Site.{check, ifDone}
+use Rattle.rules.specs.Site.{stateLength, checkAlso, check, ifDone}
 use Rattle.rules.specs.Step.{Rule, newVelocity}
 use Rattle.rules.specs.Run.{Stepping, Outcome, history, siteStep, siteStepBy, runAfter, run}
-use Rattle.rules.specs.Pumps.{PumpedOutcome, tallyOf, addsUpTo, takesUpTo, addedBy, takenBy, addedOver, takenOver, reported, pumpedStepBy, pumpedStep, checkPumped, pumpedRunAfter, pumpedRun}
-use Rattle.laws.specs.PumpChecks.{none-checked}
+use Rattle.rules.specs.Pumps.{PumpedOutcome, tallyOf, addsUpTo, takesUpTo, addedBy, takenBy, addedOver, takenOver, reported, pumpedStepBy, pumpedStep, checkPumped, checkPumpedWith, pumpedRunAfter, pumpedRun}
+use Rattle.laws.specs.PumpChecks.{none-pass, none-checked}
 use Rattle.laws.specs.PumpedSteps as Steps
 
 -- a run without pumps, as the call reports it: nothing added, nothing taken
@@ -23,6 +25,11 @@ no-pumps-step = Steps.no-pumps
 -- the checks
 pub no-pumps-check : (c : Card) (g s : List ℤ) → checkPumped c g s [] ≡ check c g s
 no-pumps-check = none-checked
+
+-- and those of a call that is lent one more list, of so many words, which is to be as long as the state
+pub no-pumps-check-with : (c : Card) (g s : List ℤ) (words : ℕ) → checkPumpedWith c g s [] words ≡ checkAlso true (eqb words (stateLength c)) true c g s
+unfolding checkPumpedWith
+no-pumps-check-with c g s words = let p = none-pass c in rw (p .few, p .whole, p .fit)
 
 -- no history adds or takes anything
 none-added : (h : List (List ℤ)) → addedOver [] h ≡ 0

@@ -34,7 +34,7 @@ pub use Rattle.promises.specs.RoundTrips.{write-then-read, not-written, 
 -- the search's list is sound, complete and rising, and as long as lent; at 8 the count is the count needed; every chamber is compared exactly;
 -- a window turned over lists nothing; -0.0 is 0
 pub use Rattle.promises.specs.Searches.{finds, as-long-as-lent, count-at-8, inside-exactly, compared-exactly, lists-nothing, minus-zero-answer, minus-zero-list}
--- of document 02's [9], a face that counts only in the cell that its velocity points out of: a step which document 01's own limit accepted is accepted with the
+-- of document 02's [9], a face that counts only in the cell that its velocity points out of, in calls that are lent no pumps: a step which document 01's own limit accepted is accepted with the
 -- same next state, a run which it did not stop is the same run, no answer but 4 changed, nor any number but 4, whatever rule gives the new velocities; and, on
 -- numbers, what that limit accepted and refused
 pub use Rattle.promises.specs.NothingLost.{step-stays, run-stays, number-stays-by, number-stays, answer-stays, was-accepted, was-refused}
@@ -44,22 +44,22 @@ pub use Rattle.promises.specs.NoNegativeShare.{no-negative-share, number
 -- of document 02's [8], that no water is made and none is lost: the sum of all heights after a step without pumps, and after such a run whatever its reason, is that
 -- before; so of the public calls; and how great it can be
 pub use Rattle.promises.specs.WaterKept.{next-sum-by, next-sum, run-sum, sum-of-the-step, sum-of-the-run, sum-fits}
--- of document 02's [10], pumps: end sum plus taken equals start sum plus added, of a step by either engine, of every run, and of the public calls
-pub use Rattle.promises.specs.WaterKept.{pumped-sum, run-balances, step-call-balances, run-call-balances}
--- and with an empty list the pumped step, the checks and the run are those without pumps, for every input: so [2]'s still water and [8]'s sum hold for it
-pub use Rattle.promises.specs.NoPumps.{no-pumps-step, no-pumps-check, no-pumps-run}
 -- and that what is carried stays between what came: the balance of each inner face; the bounds of the carried part of its new velocity, and that this velocity is
 -- that part less the slope, or 0 without water and on a dry bank; who does not count, walls, and what lies beyond them; and, on numbers, bounds that are met
 pub use Rattle.promises.specs.WhatCame.{balance, carried-between, slope-put-back, brought-nothing, walls-are-0, no-flow-beyond, bounds-on-numbers}
 -- of document 02's [2], that still water stays (`stillWater`, AtRest.antt): all velocities 0, neighbouring wet cells of one surface, each dry cell's ground at or
--- above its wet neighbours' surface. The step is accepted and leaves the state as it is, the run does all the steps wanted; so of the public calls; and, on
--- numbers, a pond with a shore that lies still, and by how little it moves
+-- above its wet neighbours' surface. The step is accepted and leaves the state as it is, the run does all the steps wanted; so of the public calls that are lent no pumps;
+-- and, on numbers, a pond with a shore that lies still, and by how little it moves
 pub use Rattle.promises.specs.StillWater.{still-water, still-of-the-step, still-of-the-run}
 pub use Rattle.promises.specs.Pond.{pond-on-numbers}
 -- of document 02's [5], the textbook engine beside the first one: the division of its two terms by H' leaves no rest; both give every face the same new velocity,
 -- 0 on a dry bank, so that what is promised of the one is promised of the other; every answer and every list of the textbook call is the first engine's, for every
 -- input, refused ones too
 pub use Rattle.promises.specs.BothEngines.{leaves-no-rest, one-rule, banks-in-both, carries-over, same-answer, same-next, engines-agree}
+-- of document 02's [10], pumps: end sum plus taken equals start sum plus added, of a step by either engine, of every run, and of the public calls
+pub use Rattle.promises.specs.WaterKept.{pumped-sum, run-balances, step-call-balances, run-call-balances}
+-- and with an empty list the pumped step, the checks and the run are those without pumps, for every input: so [2]'s still water and [8]'s sum hold for it
+pub use Rattle.promises.specs.NoPumps.{no-pumps-step, no-pumps-check, no-pumps-check-with, no-pumps-run}
 
 -- ---- Demand 3
 

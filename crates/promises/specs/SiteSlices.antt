@@ -7,7 +7,7 @@ use native.Mathlib.Omega.{arith}
 use lib.IntN.{ℤ}
 use Rattle.rules.specs.declared.Card.{Card}
 use Rattle.rules.specs.declared.Tally.{Tally}
-use Rattle.rules.specs.Run.{Progress, OutcomeOf, Stepping, runFrom}
+use Rattle.rules.specs.Run.{OutcomeOf, Stepping, runFrom}
 use Rattle.rules.specs.Pumps.{checkPumped, addedBy, takenBy, pumpedStep, progressOf, tallyOf, PumpedOutcome, pumpedRun}
 use Rattle.laws.specs.Facts.{sound-facts}
 use Rattle.laws.specs.Follows.{Follows, Always, follows, mapped}

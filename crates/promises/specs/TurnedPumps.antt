@@ -12,14 +12,13 @@ use lib.Seq.{ext-getD}
 use lib.Dec.{T, leb, ltb, eqb, eqb→eq, eqb-refl, lt→ltb, ltb→lt, le→leb}
 use borrow.Author.Tests.{ltb-false}
 use Rattle.rules.specs.declared.Card.{Card}
-use Rattle.rules.specs.Grid.{all}
 use Rattle.rules.specs.Site.{cells, stateLength}
 use Rattle.rules.specs.Pumps.{Pump, pumpAt, pumpCount, fewPumps, wholePumps, pumpFits, pumpsFit, adds, takes, heightAfter, heightAt, afterPump, afterPumps, finds, addsUpTo, takesUpTo, pumped, addedBy, takenBy, turnFits, inletsFit}
 use Rattle.rules.specs.Turn.{Turn, turnedPumps}
 use Rattle.laws.specs.Tests.{both-ways, true-of, to-T, and-both}
 use Rattle.laws.specs.Grids.{all-intro, all-same}
 use Rattle.laws.specs.Stored.{stored, faces-stored}
-use Rattle.laws.specs.Pumped.{PumpFacts, pump-facts, length-turns, each-fits}
+use Rattle.laws.specs.Pumped.{pump-facts, length-turns, each-fits}
 use Rattle.laws.specs.PumpChecks.{PumpsPass}
 use Rattle.promises.specs.Turning.{Lawful}
 

@@ -10,14 +10,14 @@ use Rattle.rules.specs.declared.Card.{Card}
 use Rattle.rules.specs.Site.{cells, readGround, readState, check}
 use Rattle.rules.specs.Step.{newVelocity, limitKept, newHeightsFit, newVelocitiesFit, answer, number, stepNumberBy, stepNumber}
 use Rattle.rules.specs.Run.{runFrom, siteStep}
-use Rattle.rules.specs.Pumps.{checkPumped, PumpedOutcome, pumpedStep, pumpedRun}
+use Rattle.rules.specs.Pumps.{checkPumped, pumpedStep, pumpedRun}
 use Rattle.rules.specs.Turn.{Turn, turnedPumps, turned, Obeys}
 use Rattle.laws.specs.Facts.{check-sound, sound-check, sound-facts}
 use Rattle.laws.specs.Keeps.{keeps}
-use Rattle.laws.specs.Follows.{Follows, Always, follows, mapped}
+use Rattle.laws.specs.Follows.{Follows, Always, follows}
 use Rattle.laws.specs.Pumped.{sound-pumped}
 use Rattle.laws.specs.PumpChecks.{PumpsPass, checked, to-checked}
-use Rattle.laws.specs.Counting.{Counted, uncounted, told, counting, mapCounted, counting-follows}
+use Rattle.laws.specs.Counting.{uncounted, told, counting, mapCounted, counting-follows}
 use Rattle.laws.specs.PumpedSteps.{PumpsFollow, pumping-follows, pumped-run}
 use Rattle.promises.specs.Turning.{Lawful}
 use Rattle.promises.specs.TurnedPumps.{added-turned, taken-turned, pumped-turned, inlets-turned, pumps-turned}

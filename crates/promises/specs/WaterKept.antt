@@ -16,13 +16,13 @@ use Rattle.rules.specs.Site.{cells, check, sumOfHeights, readGround, readState,
 use Rattle.rules.specs.Step.{Rule, newVelocity, next, nextStateBy, nextState}
 use Rattle.rules.specs.Run.{siteStep, runAfter, run}
 use Rattle.rules.specs.Pumps.{afterPumps, pumped, addedBy, takenBy, pumpedStepBy, pumpedStep, checkPumped, checkPumpedWith, PumpedOutcome, pumpedRunAfter, pumpedRun}
-use Rattle.rules.specs.Calls.{stepAnswer, stepNext, stepAnswerBy, runOutcome, runTally, runState}
+use Rattle.rules.specs.Calls.{stepAnswer, stepNext, stepAnswerBy, stepNextBy, runOutcome, runTally, runState}
 use Rattle.rules.proofs.Sums.{sum-kept}
 use Rattle.laws.specs.Tests.{and-both, and-left, and-right}
 use Rattle.laws.specs.Numbers.{leZ-trans}
 use Rattle.laws.specs.Grids.{allAt-at}
 use Rattle.laws.specs.States.{height-back}
-use Rattle.laws.specs.Outcomes.{both-passed}
+use Rattle.laws.specs.Outcomes.{both-passed, if-done}
 use Rattle.laws.specs.Facts.{Sound, card-facts, sound-facts, sound-depths, check-sound}
 use Rattle.laws.specs.Between.{between}
 use Rattle.laws.specs.Totals.{sumAt-same, sumAt-between}
@@ -87,14 +87,15 @@ module _ (c : Card) (g s ps : List ℤ) where
   unfolding pumpedRun
   run-balances = balanced-after (checkPumped c g s ps) (checked c g s ps)
 
-  -- ---- and of the public calls: a step with number 0, and a run with any reason
+  -- ---- and of the public calls: a step with number 0, by either engine, and a run with any reason
 
-  pub step-call-balances : (lent : List ℤ) → stepAnswer c g s ps lent ≡ 0
-      → sumOfHeights c (stepNext c g s ps lent) +ℤ pos (takenBy ps s) ≡ sumOfHeights c s +ℤ pos (addedBy ps)
-  unfolding stepAnswerBy
-  step-call-balances lent e =
+  pub step-call-balances : (rule : Rule) (lent : List ℤ) → stepAnswerBy rule c g s ps lent ≡ 0
+      → sumOfHeights c (stepNextBy rule c g s ps lent) +ℤ pos (takenBy ps s) ≡ sumOfHeights c s +ℤ pos (addedBy ps)
+  unfolding stepAnswerBy stepNextBy
+  step-call-balances rule lent e =
       let p = checked-with c g s ps lent (both-passed _ _ e .0) in
-      rw (call-leaves c g s ps lent e) (pumped-sum newVelocity c g s ps (p .pumps) (sound-facts c g s (p .site .sound) .lengths .heights))
+      rw (if-done (stepAnswerBy rule c g s ps lent) (pumpedStepBy rule c g ps .next s) lent e)
+      (pumped-sum rule c g s ps (p .pumps) (sound-facts c g s (p .site .sound) .lengths .heights))
 
   pub run-call-balances : (scratch : List ℤ)
       → sumOfHeights c (runState c g s ps scratch) +ℤ pos (runTally c g s ps scratch .taken) ≡ sumOfHeights c s +ℤ pos (runTally c g s ps scratch .added)

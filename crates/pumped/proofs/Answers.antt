@@ -1,6 +1,6 @@
 -- What a sound site with pumps gives a pumped step, and each answer of the step: an inlet past the top, a step that is refused and undone, and one that is accepted.
-use Prim.Native.Nat.{ℕ, _≤_, _<_}
-use mathlib.Core.Path.{_≡_, refl, sym, ap, _∙_, subst}
+use Prim.Native.Nat.{ℕ}
+use mathlib.Core.Path.{_≡_, sym, ap, _∙_, subst}
 use mathlib.Core.Bool.{Bool, true, false, cond}
 use mathlib.Core.List.{List}
 use native.Mathlib.Nat.{suc-ne-zero, le-refl}
@@ -8,16 +8,16 @@ use native.Mathlib.Omega.{arith}
 use lib.IntN.{ℤ}
 use lib.ListN.{length}
 use Rattle.rules.specs.declared.Card.{Card}
-use Rattle.rules.specs.Site.{readState, stateLength}
+use Rattle.rules.specs.Site.{readState}
 use Rattle.rules.specs.Step.{Rule, limitKept, stepNumberBy, nextStateBy}
-use Rattle.rules.specs.Pumps.{pumpAt, pumpCount, pumped, addedBy, takenBy, inletsFit, pumpedNumber, pumpedStepBy}
+use Rattle.rules.specs.Pumps.{pumpAt, pumpCount, pumped, inletsFit, pumpedNumber, pumpedStepBy}
 use Rattle.laws.specs.Facts.{Sound, sound-facts}
 use Rattle.laws.specs.Pumped.{pump-facts, each-fits, sound-pumped, limit-pumped}
 use Rattle.laws.specs.PumpedSteps.{own-number, past-number, broken-limit}
 use Rattle.transfers.specs.Known.{SoundState}
 use Rattle.advance.specs.Advance.{StepRoom, Advanced}
 use Rattle.pumps.specs.declared.Flow.{Flow}
-use Rattle.pumps.specs.Turns.{Pumpable, Pumped, Undoable, back}
+use Rattle.pumps.specs.Turns.{Pumpable, Pumped, Undoable}
 use Rattle.pumped.specs.declared.Moved as Struct
 use Rattle.pumped.specs.Moved.{PumpedRoom, PumpedAdvanced}
 

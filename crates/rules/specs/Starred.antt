@@ -20,9 +20,9 @@ use Rattle.rules.specs.Calls.{stepAnswerBy, stepNextBy, stepAnswer, step
 unfoldable pub oneRow : (columns : ℕ) → Card
 oneRow columns = record { columns = columns; rows = 1; dx = 1000000; dy = 1000000; dt = 100; steps = 1 }
 
--- two columns, and so many steps wanted
-unfoldable pub longRow : (steps : ℕ) → Card
-longRow n = record { columns = 2; rows = 1; dx = 1000000; dy = 1000000; dt = 1; steps = n }
+-- two columns, dt 1, and so many steps wanted
+unfoldable pub slowRow : (steps : ℕ) → Card
+slowRow n = record { columns = 2; rows = 1; dx = 1000000; dy = 1000000; dt = 1; steps = n }
 
 -- flat ground 0 of so many cells
 unfoldable pub flat : ℕ → List ℤ
@@ -125,7 +125,7 @@ pub record Starred : Type 0 where
   pub to-the-top : PumpedSteps (two (pos 49000000) (pos 50000000) (pos 0)) (pos 0 ∷ pos 1000000 ∷ []) (two (pos 50000000) (pos 50000000) (pos 0))
   pub past-the-top : PumpedRefuses (two (pos 49000001) (pos 50000000) (pos 0)) (pos 0 ∷ pos 1000000 ∷ pos 0 ∷ negℤ (pos 1000000) ∷ []) 5
   pub limit-before-the-top : PumpedRefuses (two (pos 49000001) (pos 50000000) (pos 10000001)) (pos 0 ∷ pos 1000000 ∷ []) 4
-  -- [10], 64 pumps pass the checks, and 65 do not; a word left over, behind 64 pumps too; a cell and an amount that are out of range, on both sides
+  -- [10], 64 pumps pass the checks, and 65 do not; a word left over behind 64 pumps; a cell and an amount that are out of range, on both sides
   pub sixty-four : checkPumpedWith (oneRow 2) (flat 2) (two (pos 7) (pos 7) (pos 0)) (flat 128) 9 ≡ 0
   pub sixty-five : PumpedRefuses (two (pos 7) (pos 7) (pos 0)) (flat 130) 1
   pub left-over : PumpedRefuses (two (pos 7) (pos 7) (pos 0)) (flat 129) 2
@@ -134,7 +134,7 @@ pub record Starred : Type 0 where
   pub amount-too-great : PumpedRefuses (two (pos 7) (pos 7) (pos 0)) (pos 1 ∷ pos 1000001 ∷ []) 3
   pub amount-too-small : PumpedRefuses (two (pos 7) (pos 7) (pos 0)) (pos 1 ∷ negℤ (pos 1000001) ∷ []) 3
   -- [10], a run: the first step finds 300 to take and the second nothing; the third is refused by its inlet, and what its pump would take does not count
-  pub totals : pumpedRun (longRow 9) (flat 2) (two (pos 300) (pos 48000100) (pos 0)) (pos 0 ∷ negℤ (pos 1000) ∷ pos 1 ∷ pos 900000 ∷ []) ≡ record { tally = record { steps = 2; reason = 5; top = pos 49776219; added = 1800000; taken = 300 }; state = two (pos 23881) (pos 49776219) (negℤ (pos 967219)) }
+  pub totals : pumpedRun (slowRow 9) (flat 2) (two (pos 300) (pos 48000100) (pos 0)) (pos 0 ∷ negℤ (pos 1000) ∷ pos 1 ∷ pos 900000 ∷ []) ≡ record { tally = record { steps = 2; reason = 5; top = pos 49776219; added = 1800000; taken = 300 }; state = two (pos 23881) (pos 49776219) (negℤ (pos 967219)) }
   -- "dry", "<1 cm", "1 cm", "2 cm"
   pub text-0 : depthText (pos 0) ≡ 100 ∷ 114 ∷ 121 ∷ []
   pub text-9999 : depthText (pos 9999) ≡ 60 ∷ 49 ∷ 32 ∷ 99 ∷ 109 ∷ []
@@ -142,7 +142,7 @@ pub record Starred : Type 0 where
   pub text-15000 : depthText (pos 15000) ≡ 50 ∷ 32 ∷ 99 ∷ 109 ∷ []
 
 pub starred : Starred
-unfolding oneRow flat two passing three pondGround pond pondFace through square four tabulate grid all allAt greatest sum sumAt readGround readState writeState stateLength sumOfHeights sizesFit sidesFit timesFit cardFits lengthsFit groundsFit heightsFit velocitiesFit wallsStill valuesFit firstOf checkAlso firstRefusal ifDone walled transfer eastTransfer northTransfer forward backward withinLimit newHeight after before eastFace northFace outAhead outBehind outAbove outBelow positive ownShare brought carried rise slope isBank dryBank newVelocityBy newEast newNorth next limitKept newHeightsFit newVelocitiesFit answer number stepNumberBy nextStateBy pressure pressureTerm groundTerm textbookRise digitsOf decimal heightText depthText stepAnswerBy stepNextBy longRow peak started accepted stoppedFor runOn runFrom history runAfter pumpAt fewPumps wholePumps pumpFits pumpsFit checkPumped checkPumpedWith adds takes heightAfter afterPump afterPumps addsUpTo takesUpTo pumped addedBy takenBy turnFits inletsFit pumpedNumber addedOver takenOver reported pumpedRunAfter pumpedRun
+unfolding oneRow flat two passing three pondGround pond pondFace through square four tabulate grid all allAt greatest sum sumAt readGround readState writeState stateLength sumOfHeights sizesFit sidesFit timesFit cardFits lengthsFit groundsFit heightsFit velocitiesFit wallsStill valuesFit firstOf checkAlso firstRefusal ifDone walled transfer eastTransfer northTransfer forward backward withinLimit newHeight after before eastFace northFace outAhead outBehind outAbove outBelow positive ownShare brought carried rise slope isBank dryBank newVelocityBy newEast newNorth next limitKept newHeightsFit newVelocitiesFit answer number stepNumberBy nextStateBy pressure pressureTerm groundTerm textbookRise digitsOf decimal heightText depthText stepAnswerBy stepNextBy slowRow peak started accepted stoppedFor runOn runFrom history runAfter pumpAt fewPumps wholePumps pumpFits pumpsFit checkPumped checkPumpedWith adds takes heightAfter afterPump afterPumps addsUpTo takesUpTo pumped addedBy takenBy turnFits inletsFit pumpedNumber addedOver takenOver reported pumpedRunAfter pumpedRun
 starred = record {
   first-step = (refl, refl, refl, refl);
   second-step = (refl, refl, refl, refl);

@@ -57,7 +57,7 @@ swapAxes = record {
   });
 }
 
--- pumps: their cells turned, their amounts and their order kept
+-- pumps: their cells turned, their amounts and their order kept (a word left over, or a cell below 0, has no turn of its own: neither passes the checks)
 unfoldable pub turnedPumps : Turn → Card → (pumps : List ℤ) → List ℤ
 turnedPumps t c [] = []
 turnedPumps t c (left ∷ []) = left ∷ []

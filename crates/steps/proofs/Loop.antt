@@ -13,7 +13,7 @@ use Rattle.rules.specs.Grid.{greatest}
 use Rattle.rules.specs.Site.{cells, stateLength}
 use Rattle.rules.specs.Step.{newVelocity}
 use Rattle.rules.specs.Run.{Progress, OutcomeOf, peak, started, accepted, stoppedFor}
-use Rattle.rules.specs.Pumps.{addedBy, takenBy, pumpedStep, PumpedOutcome, progressOf, oneMore, HasRoom}
+use Rattle.rules.specs.Pumps.{addedBy, takenBy, pumpedStep, progressOf, oneMore, HasRoom}
 use Rattle.laws.specs.Facts.{Sound, sound-facts}
 use Rattle.laws.specs.Outcomes.{if-done}
 use Rattle.laws.specs.Runs.{LeadsTo, leads-from, leads-on, leads-nowhere, led}
