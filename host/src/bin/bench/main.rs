@@ -303,6 +303,17 @@ fn long_run() {
     }
 }
 
+// A step and a run with 64 pumps beside the same without.
+fn pumped_table() {
+    println!("| work | site | water | ours, µs | without pumps, µs | pumps cost | plain Rust, µs | without pumps, µs | pumps cost | ratio |");
+    println!("|---|---|---|---|---|---|---|---|---|---|");
+    for (size, steps) in [(8, 500), (128, 20)] {
+        let site = site(size, Water::Moving);
+        bench_pumped_step(&site, "moving");
+        bench_pumped_run(&site, "moving", steps);
+    }
+}
+
 fn main() {
     let (machine, native) = machine::kind();
     println!("Machine: {machine}.");
@@ -312,6 +323,9 @@ fn main() {
     println!();
     if std::env::args().any(|word| word == "long") {
         return long_run();
+    }
+    if std::env::args().any(|word| word == "pumps") {
+        return pumped_table();
     }
     println!("| work | site | water | ours, µs | plain Rust, µs | ratio | plain Rust that skips, µs | ratio |");
     println!("|---|---|---|---|---|---|---|---|");
@@ -340,11 +354,5 @@ fn main() {
         }
     }
     println!();
-    println!("| work | site | water | ours, µs | without pumps, µs | pumps cost | plain Rust, µs | without pumps, µs | pumps cost | ratio |");
-    println!("|---|---|---|---|---|---|---|---|---|---|");
-    for (size, steps) in [(8, 500), (128, 20)] {
-        let site = site(size, Water::Moving);
-        bench_pumped_step(&site, "moving");
-        bench_pumped_run(&site, "moving", steps);
-    }
+    pumped_table();
 }
