@@ -1,18 +1,18 @@
 -- What a sound site with pumps gives a pumped step, and each answer of the step: an inlet past the top, a step that is refused and undone, and one that is accepted.
-use Prim.Native.Nat.{ℕ}
+use Prim.Native.Nat.{ℕ, _≤_}
 use mathlib.Core.Path.{_≡_, sym, ap, _∙_, subst}
 use mathlib.Core.Bool.{Bool, true, false, cond}
 use mathlib.Core.List.{List}
-use native.Mathlib.Nat.{suc-ne-zero, le-refl}
+use native.Mathlib.Nat.{suc-ne-zero}
 use native.Mathlib.Omega.{arith}
 use lib.IntN.{ℤ}
 use lib.ListN.{length}
 use Rattle.rules.specs.declared.Card.{Card}
 use Rattle.rules.specs.Site.{readState}
 use Rattle.rules.specs.Step.{Rule, limitKept, stepNumberBy, nextStateBy}
-use Rattle.rules.specs.Pumps.{pumpAt, pumpCount, pumped, inletsFit, pumpedNumber, pumpedStepBy}
+use Rattle.rules.specs.Pumps.{pumpAt, pumpCount, pumped, addedBy, takenBy, inletsFit, pumpedNumber, pumpedStepBy}
 use Rattle.laws.specs.Facts.{Sound, sound-facts}
-use Rattle.laws.specs.Pumped.{pump-facts, each-fits, sound-pumped, limit-pumped}
+use Rattle.laws.specs.Pumped.{pump-facts, each-fits, adds-most, takes-most, sound-pumped, limit-pumped}
 use Rattle.laws.specs.PumpedSteps.{own-number, past-number, broken-limit}
 use Rattle.transfers.specs.Known.{SoundState}
 use Rattle.advance.specs.Advance.{StepRoom, Advanced}
@@ -49,6 +49,8 @@ module _ {c : Card} {g s ps found t n : List ℤ} (room : PumpedRoom c g s ps fo
             added = λ z. absurd (no z);
             taken = λ z. absurd (no z);
             undone = λ h. p .as-it-was past;
+            few-added = omega arith;
+            few-taken = omega arith;
           }
 
     -- ---- none did
@@ -63,12 +65,12 @@ module _ {c : Card} {g s ps found t n : List ℤ} (room : PumpedRoom c g s ps fo
       pub step-room : StepRoom c g s′ t n
       step-room = record { sound = pumped-sound; tide = room .tide; next = room .next }
 
-      pub undoable : length found′ ≡ length found → Undoable s′ ps found′ (pumpCount ps)
-      undoable kept = record {
-        few = le-refl (pumpCount ps);
-        room = omega (arith, room .few, room .room, kept);
+      pub undoable : length found′ ≡ length found → (count : ℕ) → count ≤ pumpCount ps → Undoable s′ ps found′ count
+      undoable kept count most = record {
+        few = most;
+        room = omega (arith, most, room .few, room .room, kept);
         cells-held = λ k h.
-            let f = pump-facts c (pumpAt ps k) (each-fits c ps (room .fit) k h) in
+            let f = pump-facts c (pumpAt ps k) (each-fits c ps (room .fit) k (omega (arith, h, most))) in
             (f .whole, omega (arith, f .place, sound-facts c g s′ pumped-sound .lengths .heights));
       }
 
@@ -83,10 +85,13 @@ module _ {c : Card} {g s ps found t n : List ℤ} (room : PumpedRoom c g s ps fo
             (λ l. broken-limit rule c g (pumped ps s) (limit-pumped c ps (room .fit) s ∙ l)))
 
         pub moved : {last : List ℤ} → ((k ≡ 0 → ⊥) → last ≡ s) → PumpedAdvanced rule c g ps s (record { number = k; added = flow .added; taken = flow .taken }) last made
+        unfolding addedBy takenBy
         moved undone = record {
           number = number-is;
           state = λ z. a .state z ∙ ap (nextStateBy rule c g) (p .state fit);
           added = λ z. p .added fit;
           taken = λ z. p .taken fit;
           undone = undone;
+          few-added = omega (arith, p .added fit, adds-most c ps (pumpCount ps) (each-fits c ps (room .fit)), room .few);
+          few-taken = omega (arith, p .taken fit, takes-most c ps s (pumpCount ps) (each-fits c ps (room .fit)), room .few);
         }

@@ -65,6 +65,12 @@ begins c g s ps h e p = record {
       (leads-from (counting ps (pumpedStep c g ps)) (c .steps) (uncounted s));
 }
 
+-- in the tally there is room for one step more, and for any two numbers that a step may add and take
+pub room-for : {c : Card} {g s₀ ps s : List ℤ} {t : Tally} {done : ℕ} → Running c g s₀ ps s t done → done < c .steps → (a k : ℕ) → a ≤ 64000000 → k ≤ 64000000 → HasRoom t a k
+room-for {c} {g} {s = s} r l a k p q =
+    let few = few-steps c g s (r .sound) in
+    record { steps = omega (arith, r .counted, few, l); added = omega (arith, p, r .added-low, few, l); taken = omega (arith, q, r .taken-low, few, l) }
+
 module _ {c : Card} {g s₀ ps s : List ℤ} {t : Tally} {done : ℕ} (pass : PumpsPass c ps) (r : Running c g s₀ ps s t done) where
   -- a step that is taken: what it did, and what it made
   module _ (l : done < c .steps) (moved : Moved) {after made : List ℤ} (a : PumpedAdvanced newVelocity c g ps s moved after made) where
@@ -77,16 +83,6 @@ module _ {c : Card} {g s₀ ps s : List ℤ} {t : Tally} {done : ℕ} (pass : Pu
         record {
           tallied = (λ i. record { steps = e i; reason = moved .number; top = t .top; added = t .added; taken = t .taken }) ∙ ap (λ (x : OutcomeOf Counted). told x .tally) o;
           left = a .undone h ∙ ap (λ (x : OutcomeOf Counted). told x .state) o;
-        }
-
-    -- there is room for one more in the tally
-    pub room-for : moved .number ≡ 0 → HasRoom t (moved .added) (moved .taken)
-    room-for z =
-        let few = few-steps c g s (r .sound) in
-        record {
-          steps = omega (arith, r .counted, few, l);
-          added = omega (arith, a .added z, added-most c ps pass, r .added-low, few, l);
-          taken = omega (arith, a .taken z, taken-most c ps pass s, r .taken-low, few, l);
         }
 
     -- the state renewed by it, and the tally with the new state's greatest height

@@ -25,7 +25,7 @@ advance-requires : tie.Need-advance-requires
 advance-requires c κs = step-room (c .before .before .before .before .before .before .before .before .before .before .pre) (c .before .before .before .before .before .before .before .pump .ensures) (search (not-false, needs))
 
 undo-requires : tie.Need-undo-requires
-undo-requires c κs = undoable (c .before .before .before .before .before .before .before .before .before .before .before .before .before .before .before .before .pre) (c .before .before .before .before .before .before .before .before .before .before .before .before .before .pump .ensures) (search (not-false, needs)) (search needs)
+undo-requires c κs = undoable (c .before .before .before .before .before .before .before .before .before .before .before .before .before .before .before .before .pre) (c .before .before .before .before .before .before .before .before .before .before .before .before .before .pump .ensures) (search (not-false, needs)) (search needs) _ (search needs)
 
 same-length-3 : tie.Need-same-length-3
 same-length-3 c = search needs

@@ -105,7 +105,8 @@ accept-requires : tie.Need-accept-requires Inv-loop μ-loop
 accept-requires c κs =
     let d = moved (c .before) in
     let e = entered d in
-    room-for (start e .pre .pass) (e .before .loop .inv .0) (e .loop-test .taken) _ (d .pumped-advance .ensures) (passed (renewed (c .before)) .if1 .left)
+    let few = d .pumped-advance .ensures in
+    room-for (e .before .loop .inv .0) (e .loop-test .taken) _ _ (search (few .few-added, few .few-taken)) (search (few .few-added, few .few-taken))
 
 add-done : tie.Need-add-done Inv-loop μ-loop
 add-done c =
