@@ -42,7 +42,7 @@
  *                          any input   small site   refused
  *     water_step             398,000       27,000     1,000
  *     water_step_textbook    398,000       27,000     1,000
- *     water_run              201,000       15,000     1,000
+ *     water_run              201,000       16,000     1,000
  *     water_search            38,000       38,000    38,000
  *     water_search_lists       6,000        6,000     6,000
  *     water_read_sheet         1,000        1,000     1,000
@@ -51,7 +51,7 @@
  *
  * Small is a site whose state has at most 3,136 words, as with 32 columns and 32 rows; where it has at most 800, as with 16 and 16, a
  * step by either engine takes 9,000. Refused means with 1, 2 or 3, and by the sheet reader with 9 too: the 4, 5 and 7 of a step or a run
- * take what the site takes. A step is named there without pumps: with pumps it takes 596,000, on a small site 40,000. A run takes no more
+ * take what the site takes. A step is named there without pumps: with pumps it takes 596,000, on a small site 41,000. A run takes no more
  * with pumps than without. A thread that has 640,000 bytes does for every call, whatever the input.
  */
 #ifndef WATER_H

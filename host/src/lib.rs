@@ -15,7 +15,7 @@
 //! |---|---|---|---|
 //! | [`calls::step`] | 398,000 | 27,000 | 1,000 |
 //! | [`calls::step_textbook`] | 398,000 | 27,000 | 1,000 |
-//! | [`calls::run`] | 201,000 | 15,000 | 1,000 |
+//! | [`calls::run`] | 201,000 | 16,000 | 1,000 |
 //! | [`calls::search`] | 38,000 | 38,000 | 38,000 |
 //! | [`calls::search_lists`] | 6,000 | 6,000 | 6,000 |
 //! | [`calls::read_sheet`] | 1,000 | 1,000 | 1,000 |
@@ -25,7 +25,7 @@
 //! Small is a site whose state has at most 3,136 words, as with 32 columns and 32 rows; where it has at most 800, as with 16 and 16, a step
 //! by either engine takes 9,000. Refused means with `Card`, `Length` or `Value`, and by the sheet reader with `Sheet` too: the later
 //! refusals of a step or a run take what the site takes. A step is named there without pumps: with pumps it takes 596,000, on a small site
-//! 40,000. A run takes no more with pumps than without. A thread that has 640,000 bytes does for every call, whatever the input. A
+//! 41,000. A run takes no more with pumps than without. A thread that has 640,000 bytes does for every call, whatever the input. A
 //! [`Site`] takes as much as the calls that it makes, and 1,000 for the list of its pumps.
 //!
 //! # The archive

@@ -18,6 +18,10 @@ use water::Refusal;
 /// What a thread has beside: the least that Linux gives one, which holds what Rust does before and after the call.
 const THREAD: usize = 16_384;
 
+/// What each named number has to spare at least: another compiler may give the wrapper another frame.
+#[cfg(target_arch = "x86_64")]
+const SPARE: usize = 350;
+
 /// A step or a run of a site with pumps.
 type Made = fn(Wild, Vec<i32>) -> Call;
 
@@ -56,14 +60,23 @@ fn step_of_800_words() -> usize {
     9_000
 }
 
+// What a case took is printed, and is to leave of what is named as much as there is to spare.
+#[cfg(target_arch = "x86_64")]
+fn within(case: &str, took: usize, named: usize) {
+    println!("{case}: {took} bytes of stack, {named} are named");
+    assert!(
+        took + SPARE <= named,
+        "{case} takes {took} bytes of stack, with {SPARE} to spare, and include/water.h names {named}"
+    );
+}
+
 // One case: what it takes is printed and held to what is named, and it answers so, on its own stack and in a thread.
 fn holds(case: &str, named: usize, answer: Result<(), Refusal>, make: impl Fn() -> Call) {
     #[cfg(target_arch = "x86_64")]
     {
         let (answered, took) = painted::depth(&mut *make());
-        println!("{case}: {took} bytes of stack, {named} are named");
+        within(case, took, named);
         assert_eq!(answered, answer, "{case}");
-        assert!(took <= named, "{case} takes {took} bytes of stack, and include/water.h names {named}");
     }
     let thread = thread::Builder::new().stack_size(named + THREAD).spawn(make()).unwrap();
     assert_eq!(thread.join().unwrap(), answer, "{case}");

@@ -56,12 +56,12 @@ fn named_with_pumps(name: &str) -> super::Named {
     for page in [include_str!("../../../../include/water.h"), include_str!("../../../src/lib.rs")] {
         let words: Vec<&str> = page.split_whitespace().filter(|word| !["*", "//!"].contains(word)).collect();
         let page = words.join(" ");
-        assert!(page.contains("with pumps it takes 596,000, on a small site 40,000."), "both pages name a pumped step");
+        assert!(page.contains("with pumps it takes 596,000, on a small site 41,000."), "both pages name a pumped step");
         assert!(page.contains("A run takes no more with pumps than without."), "both pages name a pumped run");
     }
     match name {
         "water_run" => super::header(name),
-        _ => super::Named { any: 596_000, small: 40_000, ..super::header(name) },
+        _ => super::Named { any: 596_000, small: 41_000, ..super::header(name) },
     }
 }
 
@@ -75,9 +75,8 @@ fn how_deep_pumped_calls_go() {
             let site = cases::site(side);
             let pumps = cases::pumps(&site, 128);
             let (answer, took) = super::painted::depth(&mut *call(site, pumps));
-            println!("{name}, {side}×{side}, 64 pumps: {took} bytes of stack, {named} are named");
             assert_eq!(answer, Ok(()));
-            assert!(took <= named, "{name} takes {took} bytes of stack, and include/water.h names {named}");
+            super::within(&format!("{name}, {side}×{side}, 64 pumps"), took, named);
             assert!(took + super::THREAD <= promised(), "{name} takes {took} bytes of stack");
         }
     }
