@@ -14,7 +14,7 @@ use lib.Arith.{le→nltb}
 use Rattle.rules.specs.declared.Card.{Card}
 use Rattle.rules.specs.Site.{cells, readState, sumOfHeights}
 use Rattle.rules.specs.Step.{backward, limitKept}
-use Rattle.rules.specs.Pumps.{Pump, pumpAt, pumpCount, pumpFits, pumpsFit, adds, takes, heightAfter, heightAt, afterPump, afterPumps, finds, addsUpTo, takesUpTo, pumped, addedBy, takenBy, turnFits, inletsFit}
+use Rattle.rules.specs.Pumps.{Pump, pumpAt, pumpCount, pumpFits, pumpsFit, adds, takes, heightAfter, heightAt, afterPump, afterPumps, heightFound, addsUpTo, takesUpTo, pumped, addedBy, takenBy, turnFits, inletsFit}
 use Rattle.laws.specs.Tests.{false-of, to-T, and-both, three-of}
 use Rattle.laws.specs.Numbers.{sums}
 use Rattle.laws.specs.Grids.{all-at}
@@ -135,33 +135,33 @@ module _ (c : Card) (ps : List ℤ) where
   abbrev FitUpTo : ℕ → Type 0
   FitUpTo n = (k : ℕ) → k < n → T (pumpFits c (pumpAt ps k))
 
-  pub length-turns : (n : ℕ) (s : List ℤ) → length (afterPumps ps n s) ≡ length s
+  pub length-afters : (n : ℕ) (s : List ℤ) → length (afterPumps ps n s) ≡ length s
   unfolding afterPumps
-  length-turns zero s = refl
-  length-turns (suc n) s = length-after (pumpAt ps n) (afterPumps ps n s) ∙ length-turns n s
+  length-afters zero s = refl
+  length-afters (suc n) s = length-after (pumpAt ps n) (afterPumps ps n s) ∙ length-afters n s
 
-  pub sound-turns : (n : ℕ) (g s : List ℤ) → FitUpTo n → ((k : ℕ) → k < n → T (turnFits ps s k)) → Sound c g s → Sound c g (afterPumps ps n s)
+  pub sound-afters : (n : ℕ) (g s : List ℤ) → FitUpTo n → ((k : ℕ) → k < n → T (turnFits ps s k)) → Sound c g s → Sound c g (afterPumps ps n s)
   unfolding afterPumps turnFits
-  sound-turns zero g s fit top sound = sound
-  sound-turns (suc n) g s fit top sound =
+  sound-afters zero g s fit top sound = sound
+  sound-afters (suc n) g s fit top sound =
       sound-after (pumpAt ps n) c g (afterPumps ps n s) (fit n (le-refl (suc n))) (top n (le-refl (suc n)))
-      (sound-turns n g s (λ k l. fit k (omega arith)) (λ k l. top k (omega arith)) sound)
+      (sound-afters n g s (λ k l. fit k (omega arith)) (λ k l. top k (omega arith)) sound)
 
-  pub faces-turns : (n : ℕ) (s : List ℤ) → FitUpTo n → SameFaces c s (afterPumps ps n s)
+  pub faces-afters : (n : ℕ) (s : List ℤ) → FitUpTo n → SameFaces c s (afterPumps ps n s)
   unfolding afterPumps
-  faces-turns zero s fit = record { word = λ m. refl }
-  faces-turns (suc n) s fit = faces-then (faces-turns n s (λ k l. fit k (omega arith))) (faces-after (pumpAt ps n) c (afterPumps ps n s) (fit n (le-refl (suc n))))
+  faces-afters zero s fit = record { word = λ m. refl }
+  faces-afters (suc n) s fit = faces-then (faces-afters n s (λ k l. fit k (omega arith))) (faces-after (pumpAt ps n) c (afterPumps ps n s) (fit n (le-refl (suc n))))
 
-  pub sum-turns : (n : ℕ) (s : List ℤ) → FitUpTo n → cells c ≤ length s
+  pub sum-afters : (n : ℕ) (s : List ℤ) → FitUpTo n → cells c ≤ length s
       → Balanced (sumOfHeights c (afterPumps ps n s)) (sumOfHeights c s) (addsUpTo ps n) (takesUpTo ps s n)
   unfolding afterPumps takesUpTo addsUpTo
-  sum-turns zero s fit long = refl
-  sum-turns (suc n) s fit long =
+  sum-afters zero s fit long = refl
+  sum-afters (suc n) s fit long =
       let p = pumpAt ps n in
       let t = afterPumps ps n s in
-      let last = sum-after p c t (fit n (le-refl (suc n))) (omega (arith, long, length-turns n s)) in
+      let last = sum-after p c t (fit n (le-refl (suc n))) (omega (arith, long, length-afters n s)) in
       balanced-on (sumOfHeights c (afterPump p t)) (sumOfHeights c t) (sumOfHeights c s) (addsUpTo ps n) (adds p) (takesUpTo ps s n) (takes p (heightAt p t))
-      last (sum-turns n s (λ k l. fit k (omega arith)) long)
+      last (sum-afters n s (λ k l. fit k (omega arith)) long)
 
   -- together they add and take at most 1,000,000 each
   pub adds-most : (n : ℕ) → FitUpTo n → addsUpTo ps n ≤ n * 1000000
@@ -174,7 +174,7 @@ module _ (c : Card) (ps : List ℤ) where
   unfolding takesUpTo
   takes-most s zero fit = omega arith
   takes-most s (suc n) fit =
-      omega (arith, takes-most s n (λ k l. fit k (omega arith)), takes-amount (pumpAt ps n) (finds ps s n), pump-facts c (pumpAt ps n) (fit n (le-refl (suc n))) .amount)
+      omega (arith, takes-most s n (λ k l. fit k (omega arith)), takes-amount (pumpAt ps n) (heightFound ps s n), pump-facts c (pumpAt ps n) (fit n (le-refl (suc n))) .amount)
 
 -- ---- all of them, where the third check passed
 
@@ -185,12 +185,12 @@ module _ (c : Card) (ps : List ℤ) (fit : pumpsFit c ps ≡ true) where
 
   pub sound-pumped : (g s : List ℤ) → inletsFit ps s ≡ true → Sound c g s → Sound c g (pumped ps s)
   unfolding pumped inletsFit
-  sound-pumped g s top sound = sound-turns c ps (pumpCount ps) g s each-fits (all-at (pumpCount ps) (turnFits ps s) (to-T top)) sound
+  sound-pumped g s top sound = sound-afters c ps (pumpCount ps) g s each-fits (all-at (pumpCount ps) (turnFits ps s) (to-T top)) sound
 
   pub limit-pumped : (s : List ℤ) → limitKept c (readState c (pumped ps s)) ≡ limitKept c (readState c s)
   unfolding pumped
-  limit-pumped s = limit-same (faces-turns c ps (pumpCount ps) s each-fits)
+  limit-pumped s = limit-same (faces-afters c ps (pumpCount ps) s each-fits)
 
   pub sum-pumped : (s : List ℤ) → cells c ≤ length s → Balanced (sumOfHeights c (pumped ps s)) (sumOfHeights c s) (addedBy ps) (takenBy ps s)
   unfolding pumped takenBy addedBy
-  sum-pumped s long = sum-turns c ps (pumpCount ps) s each-fits long
+  sum-pumped s long = sum-afters c ps (pumpCount ps) s each-fits long

@@ -114,7 +114,10 @@ follows-without-6 c g = record {
 }
 
 -- with pumps too: the step from the pumped state has the same number
-pumped-without-6 : (c : Card) (g ps : List ℤ) → PumpsPass c ps → Follows (λ s. check c g s ≡ 0) Always (λ s. s) (pumpedStep c g ps) (pumping c ps (stepWith6 c g))
+abbrev pub pumpedStepWith6 : Card → (ground pumps : List ℤ) → Stepping
+pumpedStepWith6 c g ps = pumping c ps (stepWith6 c g)
+
+pumped-without-6 : (c : Card) (g ps : List ℤ) → PumpsPass c ps → Follows (λ s. check c g s ≡ 0) Always (λ s. s) (pumpedStep c g ps) (pumpedStepWith6 c g ps)
 pumped-without-6 c g ps pass =
     pumping-follows (follows-without-6 c g) (record {
       kept = λ s e i. sound-check c g _ (sound-pumped c ps (pass .fit) g s i (check-sound c g s e));
@@ -124,9 +127,6 @@ pumped-without-6 c g ps pass =
     })
 
 -- and its run is the same, with what its history adds and takes; of the call, lent a scratch list as long as its state, whatever its pumps
-abbrev pub pumpedStepWith6 : Card → (ground pumps : List ℤ) → Stepping
-pumpedStepWith6 c g ps = pumping c ps (stepWith6 c g)
-
 pub run-without-6 : (c : Card) (g s ps scratch : List ℤ) → checkPumped c g s ps ≡ 0 → length scratch ≡ length s
     → runOutcome c g s ps scratch ≡ reported ps (history (pumpedStepWith6 c g ps) (c .steps) s) (runFrom (pumpedStepWith6 c g ps) (c .steps) s)
 unfolding pumpedRun
@@ -151,7 +151,7 @@ behind-checks zero n l h e = h e
 behind-checks (suc k) n l h e = omega (arith, l, e)
 
 module _ (c : Card) (g s ps lent : List ℤ) where
-  pub answer-without-6 : stepAnswer c g s ps lent ≡ firstRefusal (checkPumpedWith c g s ps (length lent)) (pumping c ps (stepWith6 c g) .number s)
+  pub answer-without-6 : stepAnswer c g s ps lent ≡ firstRefusal (checkPumpedWith c g s ps (length lent)) (pumpedStepWith6 c g ps .number s)
   unfolding stepAnswerBy
   answer-without-6 =
       first-same (checkPumpedWith c g s ps (length lent))

@@ -1,6 +1,7 @@
 -- Document 02, [9]: a face counts in a cell's step limit only if its velocity points out of that cell, and nothing is lost by it. Every step that document 01's
--- own limit accepted is accepted, with the same next state; so is every run of such steps. No answer but 4 changed. (Of calls: of those that are lent no pumps, which document 01 did not know.) (What is said of the numbers holds by any rule
--- for the new velocities, by document 01's without [2]'s banks too; the next state asks for no limit.)
+-- own limit accepted is accepted, with the same next state; so is every run of such steps. No answer but 4 changed. Document 01 knew no pumps, and so the calls
+-- are those that are lent none. (What is said of the numbers holds by any rule for the new velocities, by document 01's without [2]'s banks too; the next state
+-- asks for no limit.)
 use Prim.Native.Nat.{ℕ, suc, _+_, _*_}
 use mathlib.Core.Path.{_≡_, refl, sym, ap, _∙_}
 use mathlib.Core.Bool.{Bool, true, false}

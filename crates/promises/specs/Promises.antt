@@ -34,9 +34,9 @@ pub use Rattle.promises.specs.RoundTrips.{write-then-read, not-written, 
 -- the search's list is sound, complete and rising, and as long as lent; at 8 the count is the count needed; every chamber is compared exactly;
 -- a window turned over lists nothing; -0.0 is 0
 pub use Rattle.promises.specs.Searches.{finds, as-long-as-lent, count-at-8, inside-exactly, compared-exactly, lists-nothing, minus-zero-answer, minus-zero-list}
--- of document 02's [9], a face that counts only in the cell that its velocity points out of, in calls that are lent no pumps: a step which document 01's own limit accepted is accepted with the
--- same next state, a run which it did not stop is the same run, no answer but 4 changed, nor any number but 4, whatever rule gives the new velocities; and, on
--- numbers, what that limit accepted and refused
+-- of document 02's [9], a face that counts only in the cell that its velocity points out of, in calls that are lent no pumps: a step which document 01's own limit
+-- accepted is accepted with the same next state, a run which it did not stop is the same run, no answer but 4 changed, nor any number but 4, whatever rule gives
+-- the new velocities; and, on numbers, what that limit accepted and refused
 pub use Rattle.promises.specs.NothingLost.{step-stays, run-stays, number-stays-by, number-stays, answer-stays, was-accepted, was-refused}
 -- of document 02's [7], that refusal 6 has no input: no own share is negative where the step limit is kept; a step's number, its answer and a run with document
 -- 01's look for 6 are those without it; neither the step nor the run ever answers 6

@@ -14,7 +14,7 @@ use Rattle.laws.specs.Grids.{max-right}
 use Rattle.laws.specs.Maxima.{max-absorbs, max-assoc}
 use Rattle.laws.specs.Runs.{further, finished, gone-on, stopped, by-step}
 
--- ---- what is promised
+-- ---- two runs joined, over any step; what a call reports of two is joined in SiteSlices.antt
 
 -- how far a run came and one after it: steps added, the second's reason, the greater top
 unfoldable pub bothProgresses : Progress → Progress → Progress
@@ -23,7 +23,7 @@ bothProgresses a b = record { steps = a .steps + b .steps; reason = b .reason; t
 unfoldable pub bothRuns : {S : Type 0} → Progress → OutcomeOf S → OutcomeOf S
 bothRuns a o = record { progress = bothProgresses a (o .progress); state = o .state }
 
--- the first run and, where its reason is 0, the second from the state in which the first ended; where the first was stopped, the first alone
+-- there is a second run where the first did all its steps
 unfoldable pub joinedAfter : {S : Type 0} → (reason : ℕ) (first : OutcomeOf S) (second : S → OutcomeOf S) → OutcomeOf S
 joinedAfter zero first second = bothRuns (first .progress) (second (first .state))
 joinedAfter (suc r) first second = first

@@ -13,12 +13,12 @@ use lib.Dec.{T, leb, ltb, eqb, eqb→eq, eqb-refl, lt→ltb, ltb→lt, le→leb}
 use borrow.Author.Tests.{ltb-false}
 use Rattle.rules.specs.declared.Card.{Card}
 use Rattle.rules.specs.Site.{cells, stateLength}
-use Rattle.rules.specs.Pumps.{Pump, pumpAt, pumpCount, fewPumps, wholePumps, pumpFits, pumpsFit, adds, takes, heightAfter, heightAt, afterPump, afterPumps, finds, addsUpTo, takesUpTo, pumped, addedBy, takenBy, turnFits, inletsFit}
+use Rattle.rules.specs.Pumps.{Pump, pumpAt, pumpCount, fewPumps, wholePumps, pumpFits, pumpsFit, adds, takes, heightAfter, heightAt, afterPump, afterPumps, heightFound, addsUpTo, takesUpTo, pumped, addedBy, takenBy, turnFits, inletsFit}
 use Rattle.rules.specs.Turn.{Turn, turnedPumps}
 use Rattle.laws.specs.Tests.{both-ways, true-of, to-T, and-both}
 use Rattle.laws.specs.Grids.{all-intro, all-same}
 use Rattle.laws.specs.Stored.{stored, faces-stored}
-use Rattle.laws.specs.Pumped.{pump-facts, length-turns, each-fits}
+use Rattle.laws.specs.Pumped.{pump-facts, length-afters, each-fits}
 use Rattle.laws.specs.PumpChecks.{PumpsPass}
 use Rattle.promises.specs.Turning.{Lawful}
 
@@ -118,16 +118,16 @@ module _ (t : Turn) (𝓛 : Lawful t) (c : Card) where
     turned-after zero l s long = refl
     turned-after (suc n) l s long =
         ap₂ afterPump (at n l) (turned-after n (omega arith) s long)
-        ∙ after-turned (pumpAt ps n) (afterPumps ps n s) (each-fits c ps (pass .fit) n l) (omega (arith, long, length-turns c ps n s))
+        ∙ after-turned (pumpAt ps n) (afterPumps ps n s) (each-fits c ps (pass .fit) n l) (omega (arith, long, length-afters c ps n s))
 
-    finds-same : (k : ℕ) → k < pumpCount ps → (s : List ℤ) → cells c ≤ length s → finds qs (t .state c s) k ≡ finds ps s k
-    finds-same k h s long =
+    found-same : (k : ℕ) → k < pumpCount ps → (s : List ℤ) → cells c ≤ length s → heightFound qs (t .state c s) k ≡ heightFound ps s k
+    found-same k h s long =
         ap₂ (λ (p : Pump) (v : List ℤ). heightAt p v) (at k h) (turned-after k (omega arith) s long)
         ∙ 𝓛 .heights c (afterPumps ps k s) (natAbs (pumpAt ps k .cell)) (pump-facts c (pumpAt ps k) (each-fits c ps (pass .fit) k h) .place)
 
     turn-same : (k : ℕ) → k < pumpCount ps → (s : List ℤ) → cells c ≤ length s → turnFits qs (t .state c s) k ≡ turnFits ps s k
     unfolding turnFits heightAfter adds takes
-    turn-same k h s long = ap₂ (λ (p : Pump) (x : ℤ). leZ (heightAfter p x) (pos 50000000)) (at k h) (finds-same k h s long)
+    turn-same k h s long = ap₂ (λ (p : Pump) (x : ℤ). leZ (heightAfter p x) (pos 50000000)) (at k h) (found-same k h s long)
 
     adds-same : (n : ℕ) → n ≤ pumpCount ps → addsUpTo qs n ≡ addsUpTo ps n
     unfolding addsUpTo adds
@@ -137,7 +137,7 @@ module _ (t : Turn) (𝓛 : Lawful t) (c : Card) where
     takes-same : (n : ℕ) → n ≤ pumpCount ps → (s : List ℤ) → cells c ≤ length s → takesUpTo qs (t .state c s) n ≡ takesUpTo ps s n
     unfolding takesUpTo takes
     takes-same zero l s long = refl
-    takes-same (suc n) l s long = ap₂ _+_ (takes-same n (omega arith) s long) (ap₂ takes (at n l) (finds-same n l s long))
+    takes-same (suc n) l s long = ap₂ _+_ (takes-same n (omega arith) s long) (ap₂ takes (at n l) (found-same n l s long))
 
     -- ---- so of the whole list
 

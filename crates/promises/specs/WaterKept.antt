@@ -56,11 +56,11 @@ module _ (rule : Rule) (c : Card) (g s ps : List ℤ) (pass : PumpsPass c ps) (l
 
 module _ (c : Card) (g s ps : List ℤ) where
   -- (a run's end keeps what its start has and each accepted step keeps; of its numbers nothing is asked here)
-  pub record Weighed (x : Counted) : Type 0 where
+  pub record InBalance (x : Counted) : Type 0 where
     pub sound : Sound c g (x .state)
     pub balanced : Balanced (sumOfHeights c (x .state)) (sumOfHeights c s) (x .added) (x .taken)
 
-  keeps-sum : PumpsPass c ps → Proper (counting ps (pumpedStep c g ps)) Weighed (λ k. Unit {0})
+  keeps-sum : PumpsPass c ps → Proper (counting ps (pumpedStep c g ps)) InBalance (λ k. Unit {0})
   keeps-sum pass = record {
     kept = λ x w e. record {
       sound = keeps-pumped newVelocity c g ps pass (x .state) (w .sound) e;

@@ -16,8 +16,8 @@ use Rattle.laws.specs.Pumped.{pump-facts, each-fits, adds-most, takes-most, sou
 use Rattle.laws.specs.PumpedSteps.{own-number, past-number, broken-limit}
 use Rattle.transfers.specs.Known.{SoundState}
 use Rattle.advance.specs.Advance.{StepRoom, Advanced}
-use Rattle.pumps.specs.declared.Flow.{Flow}
-use Rattle.pumps.specs.Turns.{Pumpable, Pumped, Undoable}
+use Rattle.pumps.specs.declared.Acted.{Acted}
+use Rattle.pumps.specs.Acting.{Pumpable, Pumped, Undoable}
 use Rattle.pumped.specs.declared.Moved as Struct
 use Rattle.pumped.specs.Moved.{PumpedRoom, PumpedAdvanced}
 
@@ -30,10 +30,10 @@ module _ {c : Card} {g s ps found t n : List ℤ} (room : PumpedRoom c g s ps fo
   pub pumpable : Pumpable s ps found
   pumpable = record { card = c; ground = g; sound = room .sound; fit = room .fit; few = room .few; room = room .room }
 
-  module _ {flow : Flow} {s′ found′ : List ℤ} (p : Pumped ps s flow s′ found′) where
+  module _ {acted : Acted} {s′ found′ : List ℤ} (p : Pumped ps s acted s′ found′) where
     -- ---- an inlet passed the top
 
-    module _ (past : flow .fits ≡ false) where
+    module _ (past : acted .fits ≡ false) where
       pub still-sound : SoundState c s′
       still-sound = record { ground = g; site = subst (λ (x : List ℤ). Sound c g x) (sym (p .as-it-was past)) (room .sound) }
 
@@ -55,7 +55,7 @@ module _ {c : Card} {g s ps found t n : List ℤ} (room : PumpedRoom c g s ps fo
 
     -- ---- none did
 
-    module _ (fit : flow .fits ≡ true) where
+    module _ (fit : acted .fits ≡ true) where
       inlets : inletsFit ps s ≡ true
       inlets = sym (p .fits) ∙ fit
 
@@ -84,7 +84,7 @@ module _ {c : Card} {g s ps found t n : List ℤ} (room : PumpedRoom c g s ps fo
             ∙ sym (own-number (limitKept c (readState c s)) (inletsFit ps s) (stepNumberBy rule c g (pumped ps s)) inlets
             (λ l. broken-limit rule c g (pumped ps s) (limit-pumped c ps (room .fit) s ∙ l)))
 
-        pub moved : {last : List ℤ} → ((k ≡ 0 → ⊥) → last ≡ s) → PumpedAdvanced rule c g ps s (record { number = k; added = flow .added; taken = flow .taken }) last made
+        pub moved : {last : List ℤ} → ((k ≡ 0 → ⊥) → last ≡ s) → PumpedAdvanced rule c g ps s (record { number = k; added = acted .added; taken = acted .taken }) last made
         unfolding addedBy takenBy
         moved undone = record {
           number = number-is;

@@ -40,8 +40,8 @@ pub fn pumped_advance(
     requires { ⌜ PumpedRoom card (now ground) (now state) (now pumps) (now found) (now tide) (now next) ⌝ }
     ensures { λ r. ⌜ PumpedAdvanced (engine textbook) card (now (ground .entry)) (now (pumps .entry)) (now (state .entry)) r (now (state .exit)) (now (next .exit)) ⌝ }
 {
-    let flow = pumps::pump(state, pumps, found);
-    if !flow.fits {
+    let acted = pumps::pump(state, pumps, found);
+    if !acted.fits {
         return Moved {
             number: over_the_top(card, state),
             added: 0,
@@ -54,7 +54,7 @@ pub fn pumped_advance(
     }
     Moved {
         number: number,
-        added: flow.added,
-        taken: flow.taken,
+        added: acted.added,
+        taken: acted.taken,
     }
 }

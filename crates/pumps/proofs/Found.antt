@@ -9,7 +9,7 @@ use lib.IntN.{ℤ, pos, natAbs}
 use lib.ListN.{length, getD, set}
 use lib.Seq.{getD-set-same, getD-set-other, set-set, set-getD}
 use Rattle.rules.specs.Pumps.{pumpAt, heightAt}
-use Rattle.pumps.specs.Turns.{back}
+use Rattle.pumps.specs.Acting.{back}
 
 module _ (ps found : List ℤ) (k : ℕ) (height : ℤ) where
   read-before : (n : ℕ) (s : List ℤ) → n ≤ k → back ps (set found k height) n s ≡ back ps found n s

@@ -2,5 +2,5 @@ pub mod Amounts
 pub mod Cells
 pub mod Checks
 pub mod Found
-pub mod Turning
+pub mod SoFar
 pub mod Undoing

@@ -7,7 +7,7 @@ use native.Mathlib.Omega.{arith}
 use lib.IntN.{ℤ, pos, natAbs}
 use lib.ListN.{length, getD, set, length-set}
 use Rattle.rules.specs.Pumps.{pumpAt}
-use Rattle.pumps.specs.Turns.{back}
+use Rattle.pumps.specs.Acting.{back}
 
 -- where k of the pumps are left, what they leave undone is what is asked
 pub record Undoing (s₀ ps found : List ℤ) (count : ℕ) (s : List ℤ) (k : ℕ) : Type 0 where

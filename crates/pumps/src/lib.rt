@@ -9,17 +9,17 @@ ghost use Rattle.rules.specs.Site.{cardFits};
 ghost use Rattle.rules.specs.Step.{forward, backward};
 ghost use Rattle.rules.specs.Pumps.{pumpAt, pumpCount, fewPumps, wholePumps, pumpFits, pumpsFit, checkPumpedWith};
 ghost use Rattle.laws.specs.Sizes.{Within};
-ghost use Rattle.pumps.specs.Turns.{PumpHeld, Pumpable, Pumped, Undoable, back};
+ghost use Rattle.pumps.specs.Acting.{PumpHeld, Pumpable, Pumped, Undoable, back};
 use rules::Card;
 
 // A pump as its two words.
-struct Turn {
+struct OnePump {
     cell: i32,
     amount: i32,
 }
 
 // What pumps did: whether no inlet passed the top, and how much they added and took.
-pub struct Flow {
+pub struct Acted {
     pub fits: bool,
     pub added: u64,
     pub taken: u64,
@@ -32,13 +32,13 @@ pub fn no_heights() -> [i32; 64]
     [0; 64]
 }
 
-// Pump k of a list: the one whose turn comes after k others.
-fn turn_at(pumps: &[i32], k: usize) -> Turn
+// Pump k of a list: the one that acts after k others.
+fn pump_at(pumps: &[i32], k: usize) -> OnePump
     requires { ⌜ k < pumpCount (now pumps) ⌝ }
     ensures { λ r. ⌜ (r .cell ≡ getD (now (pumps .entry)) (2 * k) (pos 0)) × (r .amount ≡ getD (now (pumps .entry)) (2 * k + 1) (pos 0)) ⌝ }
 {
     let at = 2 * k;
-    Turn {
+    OnePump {
         cell: pumps[at],
         amount: pumps[at + 1],
     }
@@ -65,9 +65,9 @@ fn pump_fits(card: Card, pumps: &[i32], k: usize) -> bool
     requires { ⌜ PumpHeld card (now pumps) k ⌝ }
     ensures { λ r. ⌜ r ≡ pumpFits card (pumpAt (now (pumps .entry)) k) ⌝ }
 {
-    let turn = turn_at(pumps, k);
-    let cell = turn.cell;
-    let amount = turn.amount;
+    let one = pump_at(pumps, k);
+    let cell = one.cell;
+    let amount = one.amount;
     let cells = card::cells(card) as i32;
     (0 <= cell) & (cell < cells) & ((-1000000 <= amount) & (amount <= 1000000))
 }
@@ -141,23 +141,23 @@ pub fn undo(state: &mut [i32], pumps: &[i32], found: &[i32], count: usize)
     let mut k = count;
     while k > 0 {
         k -= 1;
-        let turn = turn_at(pumps, k);
-        let cell = turn.cell as usize;
+        let one = pump_at(pumps, k);
+        let cell = one.cell as usize;
         state[cell] = found[k];
     }
 }
 
 // Lets all pumps act on a state in list order, and keeps the height that each found. At an inlet that would pass the top all is undone.
-pub fn pump(state: &mut [i32], pumps: &[i32], found: &mut [i32]) -> Flow
+pub fn pump(state: &mut [i32], pumps: &[i32], found: &mut [i32]) -> Acted
     requires { ⌜ Pumpable (now state) (now pumps) (now found) ⌝ }
     ensures { λ r. ⌜ Pumped (now (pumps .entry)) (now (state .entry)) r (now (state .exit)) (now (found .exit)) ⌝ }
 {
     let mut added: u64 = 0;
     let mut taken: u64 = 0;
     for k in 0..pumps.len() / 2 {
-        let turn = turn_at(pumps, k);
-        let cell = turn.cell as usize;
-        let amount = turn.amount;
+        let one = pump_at(pumps, k);
+        let cell = one.cell as usize;
+        let amount = one.amount;
         let height = state[cell];
         let plus = adds(amount);
         let wanted = wants(amount);
@@ -165,7 +165,7 @@ pub fn pump(state: &mut [i32], pumps: &[i32], found: &mut [i32]) -> Flow
         let after = height + plus - less;
         if after > 50000000 {
             undo(state, pumps, found, k);
-            return Flow {
+            return Acted {
                 fits: false,
                 added: 0,
                 taken: 0,
@@ -176,7 +176,7 @@ pub fn pump(state: &mut [i32], pumps: &[i32], found: &mut [i32]) -> Flow
         added += plus as u64;
         taken += less as u64;
     }
-    Flow {
+    Acted {
         fits: true,
         added: added,
         taken: taken,

@@ -81,8 +81,8 @@ afterPumps ps zero s = s
 afterPumps ps (suc n) s = afterPump (pumpAt ps n) (afterPumps ps n s)
 
 -- the height that pump k finds at its turn
-abbrev pub finds : (pumps state : List ℤ) → ℕ → ℤ
-finds ps s k = heightAt (pumpAt ps k) (afterPumps ps k s)
+abbrev pub heightFound : (pumps state : List ℤ) → ℕ → ℤ
+heightFound ps s k = heightAt (pumpAt ps k) (afterPumps ps k s)
 
 unfoldable pub addsUpTo : (pumps : List ℤ) → ℕ → ℕ
 addsUpTo ps zero = 0
@@ -90,7 +90,7 @@ addsUpTo ps (suc n) = addsUpTo ps n + adds (pumpAt ps n)
 
 unfoldable pub takesUpTo : (pumps state : List ℤ) → ℕ → ℕ
 takesUpTo ps s zero = 0
-takesUpTo ps s (suc n) = takesUpTo ps s n + takes (pumpAt ps n) (finds ps s n)
+takesUpTo ps s (suc n) = takesUpTo ps s n + takes (pumpAt ps n) (heightFound ps s n)
 
 -- ---- All pumps of a list
 
@@ -103,10 +103,11 @@ addedBy ps = addsUpTo ps (pumpCount ps)
 unfoldable pub takenBy : (pumps state : List ℤ) → ℕ
 takenBy ps s = takesUpTo ps s (pumpCount ps)
 
--- no inlet takes its cell past 50,000,000 at its turn, whatever a later pump would take back
+-- pump k leaves its cell at no more than 50,000,000 at its turn, whatever a later pump would take back
 unfoldable pub turnFits : (pumps state : List ℤ) → ℕ → Bool
-turnFits ps s k = leZ (heightAfter (pumpAt ps k) (finds ps s k)) (pos 50000000)
+turnFits ps s k = leZ (heightAfter (pumpAt ps k) (heightFound ps s k)) (pos 50000000)
 
+-- no inlet takes its cell past that (a pump that takes away never does)
 unfoldable pub inletsFit : (pumps state : List ℤ) → Bool
 inletsFit ps s = all (pumpCount ps) (turnFits ps s)
 
@@ -146,13 +147,13 @@ abbrev pub progressOf : Tally → Progress
 progressOf t = record { steps = t .steps; reason = t .reason; top = t .top }
 
 abbrev pub tallyOf : Progress → (added taken : ℕ) → Tally
-tallyOf p a t = record { steps = p .steps; reason = p .reason; top = p .top; added = a; taken = t }
+tallyOf p a k = record { steps = p .steps; reason = p .reason; top = p .top; added = a; taken = k }
 
--- one accepted step more, to a state with the greatest height h, in which so much was added and taken; and that there is room for it: of 10,000 steps, each adds
--- and takes at most 64 times 1,000,000
+-- one accepted step more, to a state with the greatest height h, in which a was added and k was taken
 unfoldable pub oneMore : Tally → (h : ℤ) (a k : ℕ) → Tally
 oneMore t h a k = tallyOf (accepted (progressOf t) h) (t .added + a) (t .taken + k)
 
+-- a tally has room for one more: there are at most 10,000 steps, and each adds and takes at most 64 times 1,000,000
 pub record HasRoom (t : Tally) (a k : ℕ) : Type 0 where
   pub steps : t .steps < 10000
   pub added : t .added + a ≤ 640000000000

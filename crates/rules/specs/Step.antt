@@ -35,12 +35,12 @@ northTransfer c w i j = walled (c .rows) (λ k. transfer (c .dt) (c .dy) (w .hei
 -- ---- Step limit, (18) multiplied out, a face counting only in the cell that its velocity points out of (document 02, [9]):
 -- dt · ((west, if it points west, plus east, if it points east) · dy + (south, if it points south, plus north, if it points north) · dx) ≤ 1000 · dx · dy
 
--- the size of a velocity that points east or north, else 0; and so of what crosses a face, or flows over a dual edge
+-- the size of a velocity that points east or north, else 0; and so of what crosses a face, or flows over a dual edge, and of a pump's amount ([10]), if it is an inlet's
 unfoldable pub forward : ℤ → ℕ
 forward (pos n) = n
 forward (negsuc n) = 0
 
--- the size of one that points west or south, else 0
+-- the size of one that points west or south, else 0; of an amount, if it is to be taken away
 unfoldable pub backward : ℤ → ℕ
 backward (pos n) = 0
 backward (negsuc n) = suc n

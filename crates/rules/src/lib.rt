@@ -39,7 +39,7 @@ pub struct Face {
     pub uBelow: i32,
 }
 
-// What a run hands from step to step: steps done, the reason it stopped, the greatest height so far, and how much pumps added and took.
+// What a run hands from step to step: steps done, the reason it stopped, the greatest height of the starting state and each accepted one, and how much pumps added and took.
 #[repr(C)]
 pub struct Tally {
     pub steps: u32,

@@ -18,12 +18,12 @@ use Rattle.laws.specs.Pumped.{adds-amount, takes-amount}
 use Rattle.laws.specs.Exact.{Node, fits, read, value, within, unsigned, result, add, sub}
 use Rattle.pumps.proofs.Amounts.{takes-least}
 use Rattle.pumps.proofs.Cells.{place-is, place-cast}
-use Rattle.pumps.proofs.Turning.{Turning, AtTurn, turn-none, at-turn, few-turns, added-most, taken-most, long-state, undoable, turn-more, turn-fails, turn-all}
+use Rattle.pumps.proofs.SoFar.{SoFar, AtTurn, none-yet, at-turn, few-so-far, added-most, taken-most, long-state, undoable, one-more, one-fails, all-done}
 use Rattle.pumps.proofs.pump.Statement.{statement}
 use Rattle.pumps.proofs.pump.Tie as tie
 
 abbrev Inv-loop : tie.InvT-loop
-Inv-loop state₀ pumps found₀ added₀ taken₀ k₀ k-end state found added taken k = Turning state₀ pumps found₀ state found added taken k
+Inv-loop state₀ pumps found₀ added₀ taken₀ k₀ k-end state found added taken k = SoFar state₀ pumps found₀ state found added taken k
 
 abbrev μ-loop : tie.MeasureT-loop
 μ-loop state₀ pumps found₀ added₀ taken₀ k₀ k-end state found added taken k = k-end - k
@@ -33,8 +33,8 @@ abbrev μ-loop : tie.MeasureT-loop
 abbrev start : tie.In-loop Inv-loop μ-loop → tie.Start Inv-loop μ-loop
 start c = c .before .before
 
-abbrev turned : tie.After-struct-told Inv-loop μ-loop → tie.After-turn-at Inv-loop μ-loop
-turned c = c .before .before
+abbrev chosen : tie.After-struct-told Inv-loop μ-loop → tie.After-pump-at Inv-loop μ-loop
+chosen c = c .before .before
 
 abbrev placed : tie.After-height Inv-loop μ-loop → tie.After-struct-told Inv-loop μ-loop
 placed c = c .before .before
@@ -43,7 +43,7 @@ abbrev looked : tie.After-takes Inv-loop μ-loop → tie.After-height Inv-loop �
 looked c = c .before .before .before
 
 abbrev entered : tie.After-takes Inv-loop μ-loop → tie.In-loop Inv-loop μ-loop
-entered c = turned (placed (looked c)) .before
+entered c = chosen (placed (looked c)) .before
 
 abbrev stopped : tie.After-state Inv-loop μ-loop → tie.Then1 Inv-loop μ-loop
 stopped c = c .before .before .before .before
@@ -59,19 +59,19 @@ finds c = heightAt (pump c) (c .before .loop .state)
 known : (c : tie.In-loop Inv-loop μ-loop) → AtTurn (start c .args .pumps .now) (c .before .loop .state) (c .before .loop .k)
 known c = at-turn (start c .pre) (c .before .loop .inv) (c .loop-test .taken)
 
-cell-is : (c : tie.After-turn-at Inv-loop μ-loop) → c .turn-at .result .cell ≡ pump (c .before) .cell
+cell-is : (c : tie.After-pump-at Inv-loop μ-loop) → c .pump-at .result .cell ≡ pump (c .before) .cell
 unfolding pumpAt
-cell-is c = c .turn-at .ensures .0
+cell-is c = c .pump-at .ensures .0
 
-amount-is : (c : tie.After-struct-told2 Inv-loop μ-loop) → toZ w32 (ofZ w32 (turned (c .before) .turn-at .result .amount)) ≡ pump (turned (c .before) .before) .amount
+amount-is : (c : tie.After-struct-told2 Inv-loop μ-loop) → toZ w32 (ofZ w32 (chosen (c .before) .pump-at .result .amount)) ≡ pump (chosen (c .before) .before) .amount
 unfolding pumpAt
-amount-is c = word-is _ (c .struct-told2 .given .1 .0 .1) (turned (c .before) .turn-at .ensures .1)
+amount-is c = word-is _ (c .struct-told2 .given .1 .0 .1) (chosen (c .before) .pump-at .ensures .1)
 
-cell-place : (c : tie.After-struct-told Inv-loop μ-loop) → natAbs (toZ w32 (ofZ w32 (turned c .turn-at .result .cell))) ≡ natAbs (pump (turned c .before) .cell)
-cell-place c = place-is _ (c .struct-told .given .0 .1) (cell-is (turned c))
+cell-place : (c : tie.After-struct-told Inv-loop μ-loop) → natAbs (toZ w32 (ofZ w32 (chosen c .pump-at .result .cell))) ≡ natAbs (pump (chosen c .before) .cell)
+cell-place c = place-is _ (c .struct-told .given .0 .1) (cell-is (chosen c))
 
-in-state : (c : tie.After-struct-told Inv-loop μ-loop) → natAbs (toZ w32 (ofZ w32 (turned c .turn-at .result .cell))) < length (turned c .before .before .loop .state)
-in-state c = rw (cell-place c) (known (turned c .before) .place)
+in-state : (c : tie.After-struct-told Inv-loop μ-loop) → natAbs (toZ w32 (ofZ w32 (chosen c .pump-at .result .cell))) < length (chosen c .before .before .loop .state)
+in-state c = rw (cell-place c) (known (chosen c .before) .place)
 
 in-found : (c : tie.In-loop Inv-loop μ-loop) → c .before .loop .k < length (c .before .loop .found)
 in-found c = omega (arith, c .before .loop .inv .long, c .loop-test .taken, start c .pre .few, start c .pre .room)
@@ -81,10 +81,10 @@ in-found c = omega (arith, c .before .loop .inv .long, c .loop-test .taken, star
 abbrev height : tie.After-height Inv-loop μ-loop → Node w32
 height c =
     let d = placed c in
-    let s = turned d .before .before .loop .state in
-    result {r = getD s (natAbs (toZ w32 (ofZ w32 (turned d .turn-at .result .cell)))) (pos 0)} (ap (λ (n : ℕ). getD s n (pos 0)) (cell-place d)) (known (turned d .before) .height-size) tt
+    let s = chosen d .before .before .loop .state in
+    result {r = getD s (natAbs (toZ w32 (ofZ w32 (chosen d .pump-at .result .cell)))) (pos 0)} (ap (λ (n : ℕ). getD s n (pos 0)) (cell-place d)) (known (chosen d .before) .height-size) tt
 
-plus-is : (c : tie.After-adds Inv-loop μ-loop) → c .adds .result ≡ pos (adds (pump (turned (placed (c .before)) .before)))
+plus-is : (c : tie.After-adds Inv-loop μ-loop) → c .adds .result ≡ pos (adds (pump (chosen (placed (c .before)) .before)))
 unfolding adds
 plus-is c = c .adds .ensures ∙ ap (λ (z : ℤ). pos (forward z)) (amount-is (c .before .before))
 
@@ -92,16 +92,16 @@ plus-most : (c : tie.In-loop Inv-loop μ-loop) → adds (pump c) ≤ 1000000
 plus-most c = le-trans (adds-amount (pump c)) (known c .amount .size)
 
 abbrev plus : tie.After-adds Inv-loop μ-loop → Node w32
-plus c = result (plus-is c) (record { size = plus-most (turned (placed (c .before)) .before) }) tt
+plus c = result (plus-is c) (record { size = plus-most (chosen (placed (c .before)) .before) }) tt
 
-wanted-is : (c : tie.After-wants Inv-loop μ-loop) → c .wants .result ≡ pos (backward (pump (turned (placed (c .before .before)) .before) .amount))
+wanted-is : (c : tie.After-wants Inv-loop μ-loop) → c .wants .result ≡ pos (backward (pump (chosen (placed (c .before .before)) .before) .amount))
 wanted-is c = c .wants .ensures ∙ ap (λ (z : ℤ). pos (backward z)) (amount-is (c .before .before .before))
 
 wanted-most : (c : tie.In-loop Inv-loop μ-loop) → backward (pump c .amount) ≤ 1000000
 wanted-most c = le-trans (backward-size (pump c .amount)) (known c .amount .size)
 
 abbrev wanted : tie.After-wants Inv-loop μ-loop → Node w32
-wanted c = result (wanted-is c) (record { size = wanted-most (turned (placed (c .before .before)) .before) }) tt
+wanted c = result (wanted-is c) (record { size = wanted-most (chosen (placed (c .before .before)) .before) }) tt
 
 less-is : (c : tie.After-takes Inv-loop μ-loop) → c .takes .result ≡ pos (takes (pump (entered c)) (finds (entered c)))
 less-is c =
@@ -130,28 +130,28 @@ loop-again : tie.Need-loop-again Inv-loop μ-loop
 loop-again c =
     let t = c .before in
     let n = entered t in
-    turn-more (n .before .loop .inv) (n .loop-test .taken) (after-is t) (c .if1 .left) (in-found n) (cell-place (placed (looked t))) (value (height (looked t))) (ap natAbs (value (plus (t .before .before)))) (ap natAbs (value (less t)))
+    one-more (n .before .loop .inv) (n .loop-test .taken) (after-is t) (c .if1 .left) (in-found n) (cell-place (placed (looked t))) (value (height (looked t))) (ap natAbs (value (plus (t .before .before)))) (ap natAbs (value (less t)))
 
 returns : tie.Need-returns Inv-loop μ-loop
 returns c =
     let d = stopped c in
     let n = entered (d .before) in
-    turn-fails (n .before .loop .inv) (n .loop-test .taken) (after-is (d .before)) (d .if1 .taken) (c .before .undo .ensures)
+    one-fails (n .before .loop .inv) (n .loop-test .taken) (after-is (d .before)) (d .if1 .taken) (c .before .undo .ensures)
 
 returns-2 : tie.Need-returns-2 Inv-loop μ-loop
-returns-2 c = turn-all (c .before .loop .inv) (c .loop-test .left)
+returns-2 c = all-done (c .before .loop .inv) (c .loop-test .left)
 
 loop-holds : tie.Need-loop-holds Inv-loop μ-loop
-loop-holds c = turn-none
+loop-holds c = none-yet
 
-turn-at-requires : tie.Need-turn-at-requires Inv-loop μ-loop
-turn-at-requires c κs = c .loop-test .taken
+pump-at-requires : tie.Need-pump-at-requires Inv-loop μ-loop
+pump-at-requires c κs = c .loop-test .taken
 
 cast-cell : tie.Need-cast-cell Inv-loop μ-loop
-cast-cell c = place-cast _ (c .struct-told .given .0 .1) (cell-is (turned c)) (known (turned c .before) .whole)
+cast-cell c = place-cast _ (c .struct-told .given .0 .1) (cell-is (chosen c)) (known (chosen c .before) .whole)
 
 mul-height : tie.Need-mul-height Inv-loop μ-loop
-mul-height c = omega (arith, in-state (c .before), long-state (start (turned (c .before) .before) .pre) (turned (c .before) .before .before .loop .inv))
+mul-height c = omega (arith, in-state (c .before), long-state (start (chosen (c .before) .before) .pre) (chosen (c .before) .before .before .loop .inv))
 
 slice-copy-out-height : tie.Need-slice-copy-out-height Inv-loop μ-loop
 slice-copy-out-height c = in-state (c .before)
@@ -160,7 +160,7 @@ adds-requires : tie.Need-adds-requires Inv-loop μ-loop
 adds-requires c κs = tt
 
 wants-requires : tie.Need-wants-requires Inv-loop μ-loop
-wants-requires c κs = rw (amount-is (c .before .before)) (known (turned (placed (c .before)) .before) .amount)
+wants-requires c κs = rw (amount-is (c .before .before)) (known (chosen (placed (c .before)) .before) .amount)
 
 takes-requires : tie.Need-takes-requires Inv-loop μ-loop
 takes-requires c κs = tt
@@ -181,7 +181,7 @@ same-length-2 : tie.Need-same-length-2 Inv-loop μ-loop
 same-length-2 c = entered (stopped c .before) .before .loop .inv .long
 
 mul-height-2 : tie.Need-mul-height-2 Inv-loop μ-loop
-mul-height-2 c = let n = entered (c .before) in omega (arith, few-turns (start n .pre) (n .before .loop .inv))
+mul-height-2 c = let n = entered (c .before) in omega (arith, few-so-far (start n .pre) (n .before .loop .inv))
 
 slice-set-from-height : tie.Need-slice-set-from-height Inv-loop μ-loop
 slice-set-from-height c = in-found (entered (c .before))
@@ -236,7 +236,7 @@ pump-spec =
     Inv-loop
     μ-loop
     loop-holds
-    turn-at-requires
+    pump-at-requires
     cast-cell
     mul-height
     slice-copy-out-height

@@ -29,34 +29,34 @@ loop-holds c = undo-none
 sub-k : tie.Need-sub-k Inv-loop μ-loop
 sub-k c = search needs
 
-turn-at-requires : tie.Need-turn-at-requires Inv-loop μ-loop
-turn-at-requires c κs = omega (arith, start c .pre .few)
+pump-at-requires : tie.Need-pump-at-requires Inv-loop μ-loop
+pump-at-requires c κs = omega (arith, start c .pre .few)
 
 -- the pump that is undone
-abbrev turned : tie.After-struct-told Inv-loop μ-loop → tie.After-turn-at Inv-loop μ-loop
-turned c = c .before .before
+abbrev chosen : tie.After-struct-told Inv-loop μ-loop → tie.After-pump-at Inv-loop μ-loop
+chosen c = c .before .before
 
-abbrev pump : tie.After-turn-at Inv-loop μ-loop → Pump
+abbrev pump : tie.After-pump-at Inv-loop μ-loop → Pump
 pump c = pumpAt (start (c .before) .args .pumps .now) (c .before .before .loop .k - 1)
 
-cell-is : (c : tie.After-turn-at Inv-loop μ-loop) → c .turn-at .result .cell ≡ pump c .cell
+cell-is : (c : tie.After-pump-at Inv-loop μ-loop) → c .pump-at .result .cell ≡ pump c .cell
 unfolding pumpAt
-cell-is c = c .turn-at .ensures .0
+cell-is c = c .pump-at .ensures .0
 
-held : (c : tie.After-turn-at Inv-loop μ-loop) → (pump c .cell ≡ pos (natAbs (pump c .cell))) × (natAbs (pump c .cell) < length (start (c .before) .args .state .now))
+held : (c : tie.After-pump-at Inv-loop μ-loop) → (pump c .cell ≡ pos (natAbs (pump c .cell))) × (natAbs (pump c .cell) < length (start (c .before) .args .state .now))
 held c = let l = c .before .before .loop in start (c .before) .pre .cells-held (l .k - 1) (omega (arith, l .inv .most, c .before .loop-test .taken))
 
-place : (c : tie.After-struct-told Inv-loop μ-loop) → natAbs (toZ w32 (ofZ w32 (turned c .turn-at .result .cell))) < length (turned c .before .before .loop .state)
-place c = rw (place-is _ (c .struct-told .given .0 .1) (cell-is (turned c))) (omega (arith, held (turned c) .1, turned c .before .before .loop .inv .long))
+place : (c : tie.After-struct-told Inv-loop μ-loop) → natAbs (toZ w32 (ofZ w32 (chosen c .pump-at .result .cell))) < length (chosen c .before .before .loop .state)
+place c = rw (place-is _ (c .struct-told .given .0 .1) (cell-is (chosen c))) (omega (arith, held (chosen c) .1, chosen c .before .before .loop .inv .long))
 
 cast-cell : tie.Need-cast-cell Inv-loop μ-loop
-cast-cell c = place-cast _ (c .struct-told .given .0 .1) (cell-is (turned c)) (held (turned c) .0)
+cast-cell c = place-cast _ (c .struct-told .given .0 .1) (cell-is (chosen c)) (held (chosen c) .0)
 
 mul-state : tie.Need-mul-state Inv-loop μ-loop
-mul-state c = omega (arith, start (turned c .before) .pre .room)
+mul-state c = omega (arith, start (chosen c .before) .pre .room)
 
 shared-slice-copy-out-state : tie.Need-shared-slice-copy-out-state Inv-loop μ-loop
-shared-slice-copy-out-state c = omega (arith, start (turned c .before) .pre .room)
+shared-slice-copy-out-state c = omega (arith, start (chosen c .before) .pre .room)
 
 mul-t12 : tie.Need-mul-t12 Inv-loop μ-loop
 mul-t12 c = omega (arith, place (c .before))
@@ -69,7 +69,7 @@ loop-less c = omega arith
 
 loop-again : tie.Need-loop-again Inv-loop μ-loop
 loop-again c =
-    let t = turned (c .before) in
+    let t = chosen (c .before) in
     undo-more (t .before .before .loop .inv) (t .before .loop-test .taken) (place-is _ (c .before .struct-told .given .0 .1) (cell-is t)) (word-is _ (c .state .given) refl)
 
 same-length : tie.Need-same-length Inv-loop μ-loop
@@ -86,7 +86,7 @@ undo-spec =
     μ-loop
     loop-holds
     sub-k
-    turn-at-requires
+    pump-at-requires
     cast-cell
     mul-state
     shared-slice-copy-out-state

@@ -16,11 +16,11 @@ use Rattle.laws.specs.Sizes.{Within}
 use Rattle.laws.specs.Tests.{to-T, true-of}
 use Rattle.laws.specs.Grids.{all-at, all-none, all-more, all-broken, all-end}
 use Rattle.laws.specs.Facts.{Sound, sound-facts}
-use Rattle.laws.specs.Pumped.{pump-facts, each-fits, length-turns, sound-turns, adds-most, takes-most}
-use Rattle.pumps.specs.Turns.{Pumpable, Pumped, Undoable, back}
+use Rattle.laws.specs.Pumped.{pump-facts, each-fits, length-afters, sound-afters, adds-most, takes-most}
+use Rattle.pumps.specs.Acting.{Pumpable, Pumped, Undoable, back}
 use Rattle.pumps.proofs.Found.{back-more}
 
-pub record Turning (s₀ ps found₀ s found : List ℤ) (added taken k : ℕ) : Type 0 where
+pub record SoFar (s₀ ps found₀ s found : List ℤ) (added taken k : ℕ) : Type 0 where
   pub most : k ≤ pumpCount ps
   pub long : length found ≡ length found₀
   pub is : s ≡ afterPumps ps k s₀
@@ -29,9 +29,9 @@ pub record Turning (s₀ ps found₀ s found : List ℤ) (added taken k : ℕ) :
   pub undone : back ps found k s ≡ s₀
   pub fit : T (all k (turnFits ps s₀))
 
-pub turn-none : {s₀ ps found₀ : List ℤ} → Turning s₀ ps found₀ s₀ found₀ 0 0 0
+pub none-yet : {s₀ ps found₀ : List ℤ} → SoFar s₀ ps found₀ s₀ found₀ 0 0 0
 unfolding afterPumps addsUpTo takesUpTo back
-turn-none = record { most = zero-le; long = refl; is = refl; adds-is = refl; takes-is = refl; undone = refl; fit = all-none _ }
+none-yet = record { most = zero-le; long = refl; is = refl; adds-is = refl; takes-is = refl; undone = refl; fit = all-none _ }
 
 -- what is known at turn k: its pump's numbers, and the height that it finds
 pub record AtTurn (ps s : List ℤ) (k : ℕ) : Type 0 where
@@ -41,12 +41,12 @@ pub record AtTurn (ps s : List ℤ) (k : ℕ) : Type 0 where
   pub height-low : T (leZ (pos 0) (heightAt (pumpAt ps k) s))
   pub height-size : Within 50000000 (heightAt (pumpAt ps k) s)
 
-module _ {s₀ ps found₀ s found : List ℤ} {added taken k : ℕ} (p : Pumpable s₀ ps found₀) (t : Turning s₀ ps found₀ s found added taken k) where
+module _ {s₀ ps found₀ s found : List ℤ} {added taken k : ℕ} (p : Pumpable s₀ ps found₀) (t : SoFar s₀ ps found₀ s found added taken k) where
   fits : (j : ℕ) → j < k → T (pumpFits (p .card) (pumpAt ps j))
   fits j l = each-fits (p .card) ps (p .fit) j (omega (arith, t .most))
 
   sound-now : Sound (p .card) (p .ground) s
-  sound-now = rw (t .is) (sound-turns (p .card) ps k (p .ground) s₀ fits (all-at k (turnFits ps s₀) (t .fit)) (p .sound))
+  sound-now = rw (t .is) (sound-afters (p .card) ps k (p .ground) s₀ fits (all-at k (turnFits ps s₀) (t .fit)) (p .sound))
 
   pub at-turn : k < pumpCount ps → AtTurn ps s k
   at-turn h =
@@ -61,16 +61,16 @@ module _ {s₀ ps found₀ s found : List ℤ} {added taken k : ℕ} (p : Pumpab
       }
 
   pub long-state : length s ≡ length s₀
-  long-state = rw (t .is) (length-turns (p .card) ps k s₀)
+  long-state = rw (t .is) (length-afters (p .card) ps k s₀)
 
-  pub few-turns : k ≤ 64
-  few-turns = omega (arith, t .most, p .few)
+  pub few-so-far : k ≤ 64
+  few-so-far = omega (arith, t .most, p .few)
 
   pub added-most : added ≤ 64000000
-  added-most = omega (arith, t .adds-is, adds-most (p .card) ps k fits, few-turns)
+  added-most = omega (arith, t .adds-is, adds-most (p .card) ps k fits, few-so-far)
 
   pub taken-most : taken ≤ 64000000
-  taken-most = omega (arith, t .takes-is, takes-most (p .card) ps s₀ k fits, few-turns)
+  taken-most = omega (arith, t .takes-is, takes-most (p .card) ps s₀ k fits, few-so-far)
 
   -- the pumps so far, or fewer, can be undone
   pub undoable : {n : ℕ} → n ≤ k → Undoable s ps found n
@@ -78,21 +78,21 @@ module _ {s₀ ps found₀ s found : List ℤ} {added taken k : ℕ} (p : Pumpab
       let now = sound-facts (p .card) (p .ground) s sound-now in
       record {
         few = le-trans l (t .most);
-        room = omega (arith, l, t .long, p .room, few-turns);
+        room = omega (arith, l, t .long, p .room, few-so-far);
         cells-held = λ j b. let f = pump-facts (p .card) (pumpAt ps j) (fits j (omega arith)) in (f .whole, omega (arith, f .place, now .lengths .heights));
       }
 
 -- one more turn, and one that would pass the top
-module _ {s₀ ps found₀ s found : List ℤ} {added taken k : ℕ} (t : Turning s₀ ps found₀ s found added taken k) (h : k < pumpCount ps) {after : ℤ} (after-is : after ≡ heightAfter (pumpAt ps k) (heightAt (pumpAt ps k) s)) where
+module _ {s₀ ps found₀ s found : List ℤ} {added taken k : ℕ} (t : SoFar s₀ ps found₀ s found added taken k) (h : k < pumpCount ps) {after : ℤ} (after-is : after ≡ heightAfter (pumpAt ps k) (heightAt (pumpAt ps k) s)) where
   top-is : leZ after (pos 50000000) ≡ turnFits ps s₀ k
   unfolding turnFits
   top-is = rw (after-is, t .is)
 
-  pub turn-more : ltZ (pos 50000000) after ≡ false → k < length found → {cell : ℕ} → cell ≡ natAbs (pumpAt ps k .cell) → {height : ℤ} → height ≡ heightAt (pumpAt ps k) s
+  pub one-more : ltZ (pos 50000000) after ≡ false → k < length found → {cell : ℕ} → cell ≡ natAbs (pumpAt ps k .cell) → {height : ℤ} → height ≡ heightAt (pumpAt ps k) s
       → {plus : ℕ} → plus ≡ adds (pumpAt ps k) → {less : ℕ} → less ≡ takes (pumpAt ps k) (heightAt (pumpAt ps k) s)
-      → Turning s₀ ps found₀ (set s cell after) (set found k height) (added + plus) (taken + less) (k + 1)
+      → SoFar s₀ ps found₀ (set s cell after) (set found k height) (added + plus) (taken + less) (k + 1)
   unfolding afterPumps afterPump addsUpTo takesUpTo
-  turn-more top room {cell} cell-is {height} height-is plus-is less-is =
+  one-more top room {cell} cell-is {height} height-is plus-is less-is =
       record {
         most = omega arith;
         long = length-set found k height ∙ t .long;
@@ -103,9 +103,9 @@ module _ {s₀ ps found₀ s found : List ℤ} {added taken k : ℕ} (t : Turnin
         fit = all-more k (turnFits ps s₀) (t .fit) (subst T top-is (ltZ-no {a = pos 50000000} {b = after} (to-T (ap not top)) .le));
       }
 
-  pub turn-fails : ltZ (pos 50000000) after ≡ true → {s′ found′ : List ℤ} → s′ ≡ back ps found k s → {a t′ : ℕ} → Pumped ps s₀ (record { fits = false; added = a; taken = t′ }) s′ found′
+  pub one-fails : ltZ (pos 50000000) after ≡ true → {s′ found′ : List ℤ} → s′ ≡ back ps found k s → {a t′ : ℕ} → Pumped ps s₀ (record { fits = false; added = a; taken = t′ }) s′ found′
   unfolding inletsFit
-  turn-fails top e =
+  one-fails top e =
       let no : inletsFit ps s₀ ≡ false = all-broken (pumpCount ps) (turnFits ps s₀) k h (subst (λ (b : Bool). T (not b)) top-is (not-T (leZ after (pos 50000000)) (λ y. clashℤ {a = pos 50000000} {b = after} (ltZ-yes (to-T top)) (leZ-yes y)))) in
       record {
         fits = sym no;
@@ -116,10 +116,10 @@ module _ {s₀ ps found₀ s found : List ℤ} {added taken k : ℕ} (t : Turnin
         as-it-was = λ y. e ∙ t .undone;
       }
 
-pub turn-all : {s₀ ps found₀ s found : List ℤ} {added taken k : ℕ} → Turning s₀ ps found₀ s found added taken k → pumpCount ps ≤ k
+pub all-done : {s₀ ps found₀ s found : List ℤ} {added taken k : ℕ} → SoFar s₀ ps found₀ s found added taken k → pumpCount ps ≤ k
     → Pumped ps s₀ (record { fits = true; added = added; taken = taken }) s found
 unfolding inletsFit pumped addedBy takenBy
-turn-all {s₀} {ps} {found₀} {s} {found} {added} {taken} {k} t h =
+all-done {s₀} {ps} {found₀} {s} {found} {added} {taken} {k} t h =
     let all-turns : k ≡ pumpCount ps = le-antisymm (t .most) h in
     record {
       fits = sym (true-of _ (all-end (pumpCount ps) k (turnFits ps s₀) (t .most) h (t .fit)));

@@ -1,4 +1,4 @@
--- What the turns of pumps require of their lists, and what they give.
+-- What pumps require of their lists when they act, and what they leave.
 use Prim.Native.Nat.{ℕ, zero, suc, _≤_, _<_}
 use mathlib.Core.Path.{_≡_}
 use mathlib.Core.Bool.{true, false}
@@ -9,7 +9,7 @@ use Rattle.rules.specs.declared.Card.{Card}
 use Rattle.rules.specs.Site.{cardFits}
 use Rattle.rules.specs.Pumps.{pumpAt, pumpCount, pumpsFit, pumped, addedBy, takenBy, inletsFit}
 use Rattle.laws.specs.Facts.{Sound}
-use Rattle.pumps.specs.declared.Flow.{Flow}
+use Rattle.pumps.specs.declared.Acted.{Acted}
 
 -- pump k of a list, beside a card that passed the first check
 pub record PumpHeld (c : Card) (ps : List ℤ) (k : ℕ) : Type 0 where
@@ -32,13 +32,13 @@ back ps found zero s = s
 back ps found (suc n) s = back ps found n (set s (natAbs (pumpAt ps n .cell)) (getD found n (pos 0)))
 
 -- what pumps leave: where no inlet passes the top, the pumped state, what they added and took, and that it can be undone; else the state as it was
-pub record Pumped (ps s : List ℤ) (flow : Flow) (s′ found : List ℤ) : Type 0 where
-  pub fits : flow .fits ≡ inletsFit ps s
-  pub state : flow .fits ≡ true → s′ ≡ pumped ps s
-  pub added : flow .fits ≡ true → flow .added ≡ addedBy ps
-  pub taken : flow .fits ≡ true → flow .taken ≡ takenBy ps s
-  pub undone : flow .fits ≡ true → back ps found (pumpCount ps) s′ ≡ s
-  pub as-it-was : flow .fits ≡ false → s′ ≡ s
+pub record Pumped (ps s : List ℤ) (acted : Acted) (s′ found : List ℤ) : Type 0 where
+  pub fits : acted .fits ≡ inletsFit ps s
+  pub state : acted .fits ≡ true → s′ ≡ pumped ps s
+  pub added : acted .fits ≡ true → acted .added ≡ addedBy ps
+  pub taken : acted .fits ≡ true → acted .taken ≡ takenBy ps s
+  pub undone : acted .fits ≡ true → back ps found (pumpCount ps) s′ ≡ s
+  pub as-it-was : acted .fits ≡ false → s′ ≡ s
 
 -- pumps that can be undone: so many of the list, on cells that the state has, and as many heights that they found
 pub record Undoable (s ps found : List ℤ) (count : ℕ) : Type 0 where
