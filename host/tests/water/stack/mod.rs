@@ -1,8 +1,8 @@
 //! How much stack each call takes: what `include/water.h` names and no more, whatever the input, on a small site, and where it is refused.
 //!
 //! The numbers stand in the header's table alone; the page of the package must have the same. Each case is run twice: on a painted
-//! stack, which shows how deep it went, and in a thread that has as much stack as is named and what a thread takes for itself. Calls with
-//! pumps, and every other one on the largest site, are made in a thread of 640,000 bytes besides, thread and all (whole.rs).
+//! stack, which shows how deep it went, and in a thread that has as much stack as is named and what a thread takes for itself. Steps and
+//! runs, and every other call on the largest site, are made in a thread of 640,000 bytes besides, thread and all (whole.rs).
 //! `cargo test --release stack -- --nocapture` prints what each case took.
 
 mod cases;
@@ -34,6 +34,9 @@ struct Named {
     refused: usize,
 }
 
+const HEADER: &str = include_str!("../../../../include/water.h");
+const PACKAGE: &str = include_str!("../../../src/lib.rs");
+
 // The three numbers in the one line of a page that begins with this name.
 fn named(page: &str, name: &str) -> Named {
     let is_row =
@@ -46,18 +49,27 @@ fn named(page: &str, name: &str) -> Named {
 }
 
 fn header(name: &str) -> Named {
-    named(include_str!("../../../../include/water.h"), name)
+    named(HEADER, name)
 }
 
-// What a step takes where the state has at most 800 words, which both pages say below their table.
-fn step_of_800_words() -> usize {
-    for page in [include_str!("../../../../include/water.h"), include_str!("../../../src/lib.rs")] {
-        assert!(
-            page.contains("at most 800, as with 16 and 16") && page.contains("by either engine takes 9,000."),
-            "both pages name a step of 800 words"
-        );
+// Asks both pages for a sentence below their table, however its lines are broken.
+fn both_say(sentence: &str) {
+    for page in [HEADER, PACKAGE] {
+        let words: Vec<&str> = page.split_whitespace().filter(|word| !["*", "//!"].contains(word)).collect();
+        assert!(words.join(" ").contains(sentence), "both pages say: {sentence}");
     }
-    9_000
+}
+
+// What a step takes without pumps; the table has it with pumps.
+fn without_pumps(name: &str) -> Named {
+    both_say("Without pumps a step by either engine takes 398,000, on a small site 27,000.");
+    Named { any: 398_000, small: 27_000, ..header(name) }
+}
+
+// What a step takes where the state has at most 800 words: with pumps, and without.
+fn step_of_800_words() -> (usize, usize) {
+    both_say("Where the state has at most 800 words, as with 16 columns and 16 rows, it takes 12,000, without pumps 9,000.");
+    (12_000, 9_000)
 }
 
 // What a case took is printed, and is to leave of what is named as much as there is to spare.
@@ -82,18 +94,43 @@ fn holds(case: &str, named: usize, answer: Result<(), Refusal>, make: impl Fn() 
     assert_eq!(thread.join().unwrap(), answer, "{case}");
 }
 
+// A call with 64 pumps, each of which acts.
+fn pumped(call: Made, site: Wild) -> Call {
+    let pumps = cases::pumps(&site, 128);
+    call(site, pumps)
+}
+
 #[test]
 fn steps_take_what_is_named() {
+    let (of_800_words, _) = step_of_800_words();
     for (name, step) in STEPS {
         let named = header(name);
+        let holds = |case: &str, named, answer, site: fn() -> Wild| {
+            holds(&format!("{name}, 64 pumps, {case}"), named, answer, || pumped(step, site()))
+        };
+        holds("128×128", named.any, Ok(()), || cases::site(128));
+        holds("128×128, refused with 4", named.any, Err(Refusal::StepLimit), || cases::too_fast(128));
+        holds("128×128, refused with 5", named.any, Err(Refusal::TooHigh), || cases::full(128));
+        holds("32×32", named.small, Ok(()), || cases::site(32));
+        holds("16×16", of_800_words, Ok(()), || cases::site(16));
+        holds("8×8", of_800_words, Ok(()), || cases::site(8));
+        holds("8×8, refused with 5", of_800_words, Err(Refusal::TooHigh), || cases::full(8));
+    }
+}
+
+#[test]
+fn steps_without_pumps_take_what_is_named() {
+    let (_, of_800_words) = step_of_800_words();
+    for (name, step) in STEPS {
+        let named = without_pumps(name);
         let holds = |case: &str, named, answer, site: fn() -> Wild| {
             holds(&format!("{name}, {case}"), named, answer, || step(site(), vec![]))
         };
         holds("128×128", named.any, Ok(()), || cases::site(128));
         holds("128×128, refused with 4", named.any, Err(Refusal::StepLimit), || cases::too_fast(128));
         holds("32×32", named.small, Ok(()), || cases::site(32));
-        holds("16×16", step_of_800_words(), Ok(()), || cases::site(16));
-        holds("8×8", step_of_800_words(), Ok(()), || cases::site(8));
+        holds("16×16", of_800_words, Ok(()), || cases::site(16));
+        holds("8×8", of_800_words, Ok(()), || cases::site(8));
         holds("an empty card", named.refused, Err(Refusal::Card), cases::nothing);
         holds("a bad card", named.refused, Err(Refusal::Card), || cases::no_time(128));
         holds("lists too short", named.refused, Err(Refusal::Length), || cases::short(128));
@@ -115,6 +152,19 @@ fn run_takes_what_is_named() {
     holds("a bad card", named.refused, Err(Refusal::Card), || cases::no_time(128));
     holds("lists too short", named.refused, Err(Refusal::Length), || cases::short(128));
     holds("a bad value", named.refused, Err(Refusal::Value), || cases::bad(128));
+}
+
+#[test]
+fn run_takes_no_more_with_pumps() {
+    both_say("A run takes no more with pumps than without.");
+    let named = header("water_run");
+    let holds = |case: &str, named, answer, site: fn() -> Wild| {
+        holds(&format!("run, 64 pumps, {case}"), named, answer, || pumped(cases::run, site()))
+    };
+    holds("128×128", named.any, Ok(()), || cases::site(128));
+    holds("128×128, stopped by 5", named.any, Err(Refusal::TooHigh), || cases::full(128));
+    holds("32×32", named.small, Ok(()), || cases::site(32));
+    holds("8×8", named.small, Ok(()), || cases::site(8));
 }
 
 /// Pumps that are refused with 1, 2 or 3 take no more than other refusals do.
@@ -140,9 +190,14 @@ fn refused_pumps_take_what_is_named() {
 /// A site takes what its call takes, and 1,000 more for the list of its pumps, as the package's page says.
 #[test]
 fn a_site_takes_what_its_call_takes() {
-    let (named, list) = (header("water_step"), 1_000);
-    holds("a site's step, 128×128", named.any + list, Ok(()), || cases::site_step(128, 0));
-    holds("a site's step, 8×8", step_of_800_words() + list, Ok(()), || cases::site_step(8, 0));
+    let (named, without, list) = (header("water_step"), without_pumps("water_step"), 1_000);
+    let (of_800_words, of_800_words_without) = step_of_800_words();
+    holds("a site's step, 128×128", without.any + list, Ok(()), || cases::site_step(128, 0));
+    holds("a site's step, 32×32", without.small + list, Ok(()), || cases::site_step(32, 0));
+    holds("a site's step, 8×8", of_800_words_without + list, Ok(()), || cases::site_step(8, 0));
+    holds("a site's step, 128×128, 64 pumps", named.any + list, Ok(()), || cases::site_step(128, 64));
+    holds("a site's step, 32×32, 64 pumps", named.small + list, Ok(()), || cases::site_step(32, 64));
+    holds("a site's step, 8×8, 64 pumps", of_800_words + list, Ok(()), || cases::site_step(8, 64));
     holds("a site's step, 65 pumps", named.refused + list, Err(Refusal::Card), || cases::site_step(128, 65));
 }
 
@@ -195,8 +250,7 @@ fn depth_text_takes_what_is_named() {
 /// The page of the package says the same.
 #[test]
 fn both_pages_name_the_same_stack() {
-    let page = include_str!("../../../src/lib.rs");
     for call in ["step", "step_textbook", "run", "search", "search_lists", "read_sheet", "write_sheet", "depth_text"] {
-        assert_eq!(named(page, &format!("calls::{call}")), header(&format!("water_{call}")), "{call}");
+        assert_eq!(named(PACKAGE, &format!("calls::{call}")), header(&format!("water_{call}")), "{call}");
     }
 }

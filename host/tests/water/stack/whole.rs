@@ -7,13 +7,7 @@ use water::Refusal;
 
 /// What both pages promise, by the sentence in which they do.
 fn promised() -> usize {
-    for page in [include_str!("../../../../include/water.h"), include_str!("../../../src/lib.rs")] {
-        let words: Vec<&str> = page.split_whitespace().filter(|word| !["*", "//!"].contains(word)).collect();
-        assert!(
-            words.join(" ").contains("A thread that has 640,000 bytes does for every call, whatever the input."),
-            "both pages name a thread of 640,000 bytes"
-        );
-    }
+    super::both_say("A thread that has 640,000 bytes does for every call, whatever the input.");
     640_000
 }
 
@@ -48,36 +42,4 @@ fn all_other_calls() {
     answers("read", Ok(()), cases::read(cases::site(128)));
     answers("write", Ok(()), cases::write(cases::site(128)));
     answers("text", Ok(()), cases::text(50_000_000));
-}
-
-/// What a pumped step takes, on any site and on a small one, which both pages say below their table; a pumped run takes what a run takes.
-#[cfg(target_arch = "x86_64")]
-fn named_with_pumps(name: &str) -> super::Named {
-    for page in [include_str!("../../../../include/water.h"), include_str!("../../../src/lib.rs")] {
-        let words: Vec<&str> = page.split_whitespace().filter(|word| !["*", "//!"].contains(word)).collect();
-        let page = words.join(" ");
-        assert!(page.contains("with pumps it takes 596,000, on a small site 41,000."), "both pages name a pumped step");
-        assert!(page.contains("A run takes no more with pumps than without."), "both pages name a pumped run");
-    }
-    match name {
-        "water_run" => super::header(name),
-        _ => super::Named { any: 596_000, small: 41_000, ..super::header(name) },
-    }
-}
-
-/// How deep a pumped step and a pumped run go, by the paint: printed, and held to what is named and to the promise.
-#[cfg(target_arch = "x86_64")]
-#[test]
-fn how_deep_pumped_calls_go() {
-    for (name, call) in STEPS.into_iter().chain([("water_run", cases::run as super::Made)]) {
-        let named = named_with_pumps(name);
-        for (side, named) in [(128, named.any), (32, named.small), (16, named.small), (8, named.small)] {
-            let site = cases::site(side);
-            let pumps = cases::pumps(&site, 128);
-            let (answer, took) = super::painted::depth(&mut *call(site, pumps));
-            assert_eq!(answer, Ok(()));
-            super::within(&format!("{name}, {side}×{side}, 64 pumps"), took, named);
-            assert!(took + super::THREAD <= promised(), "{name} takes {took} bytes of stack");
-        }
-    }
 }
