@@ -10,8 +10,8 @@ use water::{Card, Refusal, Site};
 
 /// Why this site's run of so many steps of dt stops, if it does.
 fn stops(site: &Site, dt: u32, steps: u32) -> Option<Refusal> {
-    let card = Card { dt, steps, ..site.card() };
-    let mut site = Site::new(card, site.ground().to_vec(), site.state().to_vec()).expect("a site in range");
+    let mut site = site.clone();
+    site.set_time(dt, steps).expect("a time in range");
     site.run().reason
 }
 

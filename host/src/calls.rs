@@ -3,8 +3,9 @@
 //! Each takes any input at all. Where one is refused, every lent list is as it was, but for a run that is stopped on its way.
 //!
 //! A step and a run take `pumps`, a list of words: cell and amount by turns, the cell being its place in the ground's list, row·columns +
-//! column, and the amount -1,000,000 to 1,000,000 micrometres a step, below 0 taken away and above 0 let in. An empty list is no pumps.
-//! [`crate::Site`] takes them by column and row ([`crate::Pump`]).
+//! column ([`Card::cell`]), and the amount -1,000,000 to 1,000,000 micrometres a step, below 0 taken away and above 0 let in. An empty list
+//! is no pumps. [`raw::Pump::words`] lends an array of records as such a list; [`crate::Site`] takes pumps by column and row
+//! ([`crate::Pump`]).
 
 use crate::raw::{self, Card, Chamber, Window};
 use crate::refusal::Refusal;
@@ -36,7 +37,7 @@ fn done<T>(number: u32, needed: usize, answer: T) -> Result<T, Refusal> {
 /// velocity 0.
 ///
 /// ```
-/// use water::{calls, Card, Refusal};
+/// use water::{calls, raw::Pump, Card, Refusal};
 /// let card = Card { columns: 2, rows: 1, dx: 1_000_000, dy: 1_000_000, dt: 100, steps: 0 };
 /// let still = [2_000_000, 1_000_000, 0, 0, 0, 0, 0, 0, 0];
 /// let mut next = [0; 9];
@@ -48,7 +49,12 @@ fn done<T>(number: u32, needed: usize, answer: T) -> Result<T, Refusal> {
 /// assert_eq!(next, pond);
 ///
 /// // two pumps on cell 0 take what is there, 1 m of the 1.5 m that they could; an inlet on cell 1 adds 1 cm
-/// calls::step(card, &[0, 0], &[1_000_000, 0, 0, 0, 0, 0, 0, 0, 0], &[0, -1_000_000, 0, -500_000, 1, 10_000], &mut next)?;
+/// calls::step(card, &[0, 0], &pond, &[0, -1_000_000, 0, -500_000, 1, 10_000], &mut next)?;
+/// assert_eq!(next, [0, 10_000, 0, -9_806, 0, 0, 0, 0, 0]);
+///
+/// // an inlet by column and row, as a record
+/// let inlet = Pump { cell: card.cell(1, 0).expect("the site has it") as i32, amount: 10_000 };
+/// calls::step(card, &[0, 0], &[0; 9], Pump::words(&[inlet]), &mut next)?;
 /// assert_eq!(next, [0, 10_000, 0, -9_806, 0, 0, 0, 0, 0]);
 ///
 /// let mut short = [7; 8];

@@ -1,4 +1,4 @@
-//! How long a site's lists are, from its card. A host may ask before the card is checked, so that nothing here can overflow: a
+//! How long a site's lists are, and where a cell stands in them, from its card. A host may ask before the card is checked, so that nothing here can overflow: a
 //! product of any columns and rows fits the 64 bits that the library is compiled for, and sums are bounded.
 
 use crate::raw::Card;
@@ -10,6 +10,19 @@ impl Card {
     /// How many cells there are: the length of the ground and of the heights.
     pub fn cells(&self) -> usize {
         self.columns as usize * self.rows as usize
+    }
+
+    /// The place in the ground's list, and among the heights, of the cell in a column, counted from the west, and a row, counted from the
+    /// south; none where the site has no such cell.
+    ///
+    /// ```
+    /// let card = water::Card { columns: 3, rows: 2, ..Default::default() };
+    /// assert_eq!(card.cell(2, 1), Some(5));
+    /// assert_eq!(card.cell(3, 0), None); // and not the first of the next row
+    /// ```
+    pub fn cell(&self, column: u32, row: u32) -> Option<usize> {
+        let is_there = column < self.columns && row < self.rows;
+        is_there.then(|| row as usize * self.columns as usize + column as usize)
     }
 
     /// How many faces have an eastward velocity, both walls of each row included.

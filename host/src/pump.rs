@@ -18,11 +18,7 @@ impl Pump {
     /// The cell's place in the ground's list. No column or row that the site has not stands for another cell: it gives a place that no site
     /// has, which the library refuses in its own order.
     fn cell(&self, card: &Card) -> i32 {
-        if self.column < card.columns && self.row < card.rows {
-            i32::try_from(self.row * card.columns + self.column).expect("a site has at most 16,384 cells")
-        } else {
-            -1
-        }
+        card.cell(self.column, self.row).map_or(-1, |cell| i32::try_from(cell).expect("a site has at most 16,384 cells"))
     }
 }
 

@@ -95,6 +95,35 @@ impl Site {
         bytes
     }
 
+    /// Another time step, in ms, and other steps wanted, from here on: for the next stage of a run, with other pumps, or in shorter steps
+    /// after [`Refusal::StepLimit`]. Refused with [`Refusal::Card`], the site is as it was, where `dt` is not 1 to 1,000 or `steps` is over
+    /// 10,000. Heights, velocities and ground stay. A pump's amount is what it moves in one step: with another time step it moves as much a
+    /// second where its amount changes with it.
+    ///
+    /// ```
+    /// # use water::{Card, Pump, Refusal, Site};
+    /// let card = Card { columns: 2, rows: 1, dx: 1_000_000, dy: 1_000_000, dt: 100, steps: 20 };
+    /// let mut site = Site::still(card, vec![0, 0], &[200_000, 200_000])?;
+    /// let pump = Pump { column: 0, row: 0, amount: -4_000 };
+    /// let first = site.run_with(&[pump]); // two seconds with one pump
+    ///
+    /// site.set_time(50, 40)?; // two more with two, in steps half as long
+    /// let half = Pump { amount: -2_000, ..pump };
+    /// let second = site.run_with(&[half, Pump { column: 1, ..half }]);
+    /// assert_eq!((first.taken, second.taken), (80_000, 160_000));
+    ///
+    /// assert_eq!(site.set_time(50, 10_001), Err(Refusal::Card));
+    /// assert_eq!((site.card().dt, site.card().steps), (50, 40));
+    /// # Ok::<(), Refusal>(())
+    /// ```
+    pub fn set_time(&mut self, dt: u32, steps: u32) -> Result<(), Refusal> {
+        let card = Card { dt, steps, ..self.card };
+        // the library says what is in range; all else of the site passes
+        check(card, &self.ground, &self.state)?;
+        self.card = card;
+        Ok(())
+    }
+
     /// One step. Refused, the site is as it was.
     ///
     /// ```
@@ -110,6 +139,9 @@ impl Site {
     }
 
     /// One step with pumps, which act before it, in the order of their list. Refused, the site is as it was: nothing was added or taken.
+    ///
+    /// A step does not tell what it added and took. A run of one step is the same step and does: [`Site::set_time`] to 1 step and
+    /// [`Site::run_with`], or [`Site::run_in_slices_with`] in slices of 1, which tells the totals so far after each.
     ///
     /// ```
     /// # use water::{Card, Pump, Refusal, Site};
@@ -339,9 +371,9 @@ impl Site {
     ///
     /// If the site has no such column or row.
     pub fn height(&self, column: u32, row: u32) -> i32 {
-        assert!(column < self.card.columns, "column {column} of {}", self.card.columns);
-        assert!(row < self.card.rows, "row {row} of {}", self.card.rows);
-        self.heights()[row as usize * self.card.columns as usize + column as usize]
+        let Card { columns, rows, .. } = self.card;
+        let cell = self.card.cell(column, row);
+        self.heights()[cell.unwrap_or_else(|| panic!("no cell is in column {column} of {columns} and row {row} of {rows}"))]
     }
 
     /// How much water is on the site, in cubic micrometres: the sum of all heights times the area of a cell. It is exact, and no step and

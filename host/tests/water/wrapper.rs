@@ -119,6 +119,53 @@ fn a_cell_by_column_and_row() {
     assert_eq!(site.depth_text(2, 1), "<1 cm");
 }
 
+/// A cell's place by column and row, for each cell of a site, one column and one row too far, and cards far out of range.
+#[test]
+fn a_cells_place() {
+    let card = six_cells().card();
+    let places = (0..3).flat_map(|row| (0..4).map(move |column| card.cell(column, row)));
+    let expected = [Some(0), Some(1), Some(2), None, Some(3), Some(4), Some(5), None, None, None, None, None];
+    assert_eq!(places.collect::<Vec<_>>(), expected);
+    for far in [3, 6, 1 << 16, 1 << 31, u32::MAX] {
+        assert_eq!((card.cell(far, 0), card.cell(0, far), card.cell(far, far)), (None, None, None));
+    }
+    let last = u32::MAX - 1;
+    let vast = Card { columns: u32::MAX, rows: u32::MAX, ..card };
+    assert_eq!(vast.cell(last, last), Some(vast.cells() - 1));
+    assert_eq!((vast.cell(u32::MAX, last), vast.cell(last, u32::MAX)), (None, None));
+    assert_eq!(Card::default().cell(0, 0), None);
+}
+
+/// A time step and steps wanted on both sides of each boundary: set, nothing else has changed, and the site runs as one that was made with
+/// them; refused, nothing has.
+#[test]
+fn another_time() {
+    let mut moving = 0;
+    trials("another time", 100, |rng| {
+        let Wild { card, ground, state } = wild::good(rng);
+        moving += usize::from(state[card.cells()..].iter().any(|&velocity| velocity != 0));
+        let start = Site::new(card, ground.clone(), state.clone()).unwrap();
+        for (dt, fits) in [(0, false), (1, true), (2, true), (999, true), (1_000, true), (1_001, false), (u32::MAX, false)] {
+            for (steps, fit) in [(0, true), (1, true), (9_999, true), (10_000, true), (10_001, false), (u32::MAX, false)] {
+                let mut site = start.clone();
+                let answer = site.set_time(dt, steps);
+                if !(fits && fit) {
+                    assert_eq!((answer, &site), (Err(Refusal::Card), &start), "{dt} ms, {steps} steps");
+                    continue;
+                }
+                assert_eq!(answer, Ok(()), "{dt} ms, {steps} steps");
+                assert_eq!(site.card(), Card { dt, steps, ..card });
+                assert_eq!((site.ground(), site.state()), (&ground[..], &state[..]));
+                if steps == 1 {
+                    let mut made = Site::new(site.card(), ground.clone(), state.clone()).unwrap();
+                    assert_eq!((site.run(), &site), (made.run(), &made));
+                }
+            }
+        }
+    });
+    assert!(single() || moving > 30, "{moving} sites had a velocity");
+}
+
 #[test]
 #[should_panic(expected = "column 3 of 3")]
 fn a_column_too_far_east() {
