@@ -1,4 +1,5 @@
-/* water.h: what a host links. Documents 01 and 02 say what each call does; this page says how C reaches it.
+/* water.h: what a host links. Documents 01 and 02, the papers that ordered the library, say what each call does, and so do the
+ * definitions in crates/rules/specs, which stand in the repository; this page says how C reaches it.
  *
  * Every call takes any input at all: any card, any length, any word. Nothing is required of the caller but that each pointer
  * reaches as many elements as the length behind it says (a length of 0 allows any pointer, NULL too), and that a list that a
@@ -14,11 +15,13 @@
  * at most what it holds. A face that lets water into a cell does not count there, so water may pass through.
  *
  * Dry banks: where one of a face's cells is dry after a step and its ground is at or above the other's new surface (height plus
- * ground), the new velocity is 0. So without pumps still water with a shore stays as it is: all velocities 0, one surface over neighbouring wet
- * cells, and the ground of each dry cell at or above the surface of its wet neighbours.
+ * ground), the new velocity is 0. So without pumps still water with a shore stays as it is: all velocities 0, one surface over
+ * neighbouring wet cells, and the ground of each dry cell at or above the surface of its wet neighbours.
  *
  * Lists: rows run south to north, and within a row west to east. Ground is columns*rows words. A state is columns*rows heights,
- * then (columns+1)*rows eastward velocities, then columns*(rows+1) northward velocities. Micrometres and micrometres a second.
+ * then (columns+1)*rows eastward velocities, then columns*(rows+1) northward velocities. Micrometres and micrometres a second: ground is
+ * -50,000,000 to 50,000,000, a height 0 to 50,000,000, a velocity -20,000,000 to 20,000,000, and 0 on a wall, the first and the last of
+ * each row's eastward and of each column's northward ones.
  *
  * Pumps: a step and a run take 0 to 64 of them, each a cell and an amount of -1,000,000 to 1,000,000 um a step. Below 0 it takes water
  * away, no more than is there; above 0 it is an inlet; 0 does nothing. The cell is its place in the ground's list, row*columns + column.
@@ -60,6 +63,10 @@
 #include <stddef.h>
 #include <stdint.h>
 
+/* 3: water_step, water_step_textbook and water_run take pumps, and a tally has added and taken. Compile anew what was compiled
+ * with an older header: its calls pass no pumps, and its tally is shorter. */
+#define WATER_VERSION 3
+
 #ifdef __cplusplus
 extern "C" {
 #endif
@@ -74,8 +81,9 @@ typedef struct {
     int32_t cell, amount;
 } WaterPump;
 
-/* What a run answers: steps done, the reason it stopped (0 if all were done), the greatest height met, and what its pumps added and took
- * over the steps done, in um of height. */
+/* What a run answers: steps done, the reason it stopped (0 if all were done), the greatest height of the starting state and each accepted
+ * one, and what its pumps added and took over the steps done, in um of height. Behind top there are four bytes of padding, which hold
+ * anything: compare tallies field by field, not by memcmp. */
 typedef struct {
     uint32_t steps, reason;
     int32_t top;

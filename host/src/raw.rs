@@ -2,7 +2,7 @@
 //!
 //! Use the safe calls of [`crate::calls`] or a [`crate::Site`]; this module is what they stand on.
 
-/// The site card. Sides are in micrometres, `dt` in milliseconds.
+/// The site card: columns and rows are 1 to 128, sides 100,000 to 20,000,000 micrometres, `dt` 1 to 1,000 milliseconds.
 #[repr(C)]
 #[derive(Clone, Copy, Debug, Default, PartialEq, Eq)]
 pub struct Card {
@@ -11,7 +11,7 @@ pub struct Card {
     pub dx: u32,
     pub dy: u32,
     pub dt: u32,
-    /// steps wanted
+    /// steps wanted, 0 to 10,000
     pub steps: u32,
 }
 
@@ -38,7 +38,8 @@ impl Pump {
     }
 }
 
-/// What a run answers: steps done, the number of the reason it stopped, the greatest height met, and what its pumps added and took.
+/// What a run answers: steps done, the number of the reason it stopped, the greatest height of the starting state and each accepted one, and
+/// what its pumps added and took.
 #[repr(C)]
 #[derive(Clone, Copy, Debug, Default, PartialEq, Eq)]
 pub struct Tally {

@@ -10,14 +10,16 @@ pub enum Refusal {
     Card,
     /// 2: a lent list has the wrong length (that of pumps an odd one), or there are over 1,000 chambers
     Length,
-    /// 3: a value outside its range, a wall velocity not 0, a pump's cell that the site has not, or a window edge not finite
+    /// 3: a value outside its range, a wall velocity not 0, a pump's cell that the site has not, or a window edge not finite. Ground is
+    /// -50,000,000 to 50,000,000 micrometres, a height and a search's depth 0 to 50,000,000, a velocity -20,000,000 to 20,000,000
+    /// micrometres a second, a pump's amount -1,000,000 to 1,000,000 micrometres.
     Value,
     /// 4: some cell breaks the step limit: the velocities that point out of it would take more than it holds in one step. A dry cell
     /// counts too, and a velocity that points into a cell does not count there. A shorter time step helps.
     StepLimit,
     /// 5: some new height exceeds 50,000,000, or an inlet takes its cell past that at its turn, even if a later pump would take it back
     TooHigh,
-    /// 7: some new velocity lies outside its range
+    /// 7: some new velocity lies outside its range, -20,000,000 to 20,000,000 micrometres a second
     TooFast,
     /// 8: the lent room is too short, and how much is needed
     Room { needed: usize },

@@ -38,7 +38,8 @@ impl PartialEq for Site {
 impl Eq for Site {}
 
 impl Site {
-    /// A site with the given state. Refused where the card, a length or a value is wrong.
+    /// A site with the given state: heights, eastward velocities, northward velocities. Refused where the card, a length or a value is wrong:
+    /// [`Refusal::Card`], [`Refusal::Length`] and [`Refusal::Value`] say what is right. A wall's velocity is 0.
     ///
     /// ```
     /// use water::{Card, Refusal, Site};

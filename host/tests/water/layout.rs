@@ -12,6 +12,15 @@ macro_rules! offsets {
     }};
 }
 
+/// The header's version is the package's first number: both change where an older caller would no longer fit.
+#[test]
+fn the_header_has_the_packages_version() {
+    let header = include_str!("../../../include/water.h");
+    let version = concat!("#define WATER_VERSION ", env!("CARGO_PKG_VERSION_MAJOR"));
+    let defined: Vec<&str> = header.lines().filter(|line| line.contains("WATER_VERSION")).collect();
+    assert_eq!(defined, [version]);
+}
+
 #[test]
 fn records_are_laid_out_as_in_the_header() {
     assert_eq!((size_of::<Card>(), align_of::<Card>()), (24, 4));
