@@ -32,7 +32,7 @@
  * its range. 5: an inlet takes its cell past 50,000,000 at its turn in the list, even if a later pump would take it back; a broken step
  * limit, which is of velocities alone, is 4 before that. Where the inlets fit, the number is that of the step from the pumped state.
  * There is no friction: on a slope the last micrometre of a cell that runs dry gets faster until a step is refused with 4, or where the
- * time step is short with 7, however much water is left elsewhere (examples/README.md says from which slopes on).
+ * time step is short with 7, however much water is left elsewhere (examples/README.md has measured slopes).
  *
  * Volume: no water is made and none is lost but by pumps. The sum of a state's columns*rows heights after a step with 0, by either engine,
  * and after water_run, whatever its reason, is the sum before, plus what was added, less what was taken: without pumps it is the same. A

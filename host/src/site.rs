@@ -39,7 +39,7 @@ impl Eq for Site {}
 
 impl Site {
     /// A site with the given state: heights, eastward velocities, northward velocities. Refused where the card, a length or a value is wrong:
-    /// [`Refusal::Card`], [`Refusal::Length`] and [`Refusal::Value`] say what is right. A wall's velocity is 0.
+    /// [`Card`] and [`Refusal::Value`] have the ranges, [`Card::cells`] and [`Card::state_length`] the lengths. A wall's velocity is 0.
     ///
     /// ```
     /// use water::{Card, Refusal, Site};
