@@ -1,5 +1,5 @@
-//! How long a site's lists are, and where a cell stands in them, from its card. A host may ask before the card is checked, so that nothing here can overflow: a
-//! product of any columns and rows fits the 64 bits that the library is compiled for, and sums are bounded.
+//! How long a site's lists are, and where a cell stands in them, from its card. A host may ask before the card is checked, so that nothing
+//! here can overflow: a product of any columns and rows fits the 64 bits that the library is compiled for, and sums are bounded.
 
 use crate::raw::Card;
 
