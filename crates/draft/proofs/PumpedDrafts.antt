@@ -9,7 +9,6 @@ use Rattle.rules.specs.declared.Card.{Card}
 use Rattle.rules.specs.Step.{Rule}
 use Rattle.rules.specs.Pumps.{pumpedStepBy}
 use Rattle.laws.specs.Facts.{Sound, sound-facts}
-use Rattle.laws.specs.PumpChecks.{at-most-64}
 use Rattle.lists.specs.Renewed.{renewed}
 use Rattle.pumped.specs.declared.Moved.{Moved}
 use Rattle.pumped.specs.Moved.{PumpedRoom, PumpedAdvanced}
@@ -39,8 +38,7 @@ module _ {c : Card} {g s ps copy t d n : List ℤ} (p : PumpedDrafting c g s ps 
         let site = p .drafting .site in
         record {
           sound = subst (λ (x : List ℤ). Sound c g x) (sym front-is) (site .sound);
-          fit = p .pumps .fit;
-          few = at-most-64 (p .pumps);
+          pumps = p .pumps;
           room = omega (arith, long);
           tide = tide-part (p .drafting) ∙ site .long;
           next = draft-part (p .drafting) ∙ site .long;

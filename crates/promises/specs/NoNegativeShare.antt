@@ -26,7 +26,7 @@ use Rattle.laws.specs.Keeps.{keeps}
 use Rattle.laws.specs.Follows.{Follows, Always, follows}
 use Rattle.laws.specs.Pumped.{sound-pumped}
 use Rattle.laws.specs.PumpChecks.{PumpsPass, checked, checked-of-with}
-use Rattle.laws.specs.Counting.{uncounted, told, counting, counted, counting-follows}
+use Rattle.laws.specs.Counting.{uncounted, told, counted, counting-follows}
 use Rattle.laws.specs.PumpedSteps.{pumping-follows, pumped-run, pumped-refused}
 use Rattle.laws.specs.Outcomes.{first-same}
 use Rattle.promises.specs.InnerFaces.{EveryInner, everyInner, inner-intro}

@@ -10,10 +10,11 @@ use lib.ListN.{length}
 use Rattle.rules.specs.declared.Card.{Card}
 use Rattle.rules.specs.Site.{readState}
 use Rattle.rules.specs.Step.{Rule, limitKept, stepNumberBy, nextStateBy}
-use Rattle.rules.specs.Pumps.{pumpAt, pumpCount, pumped, addedBy, takenBy, inletsFit, pumpedNumber, pumpedStepBy}
+use Rattle.rules.specs.Pumps.{pumpAt, pumpCount, pumped, inletsFit, pumpedNumber, pumpedStepBy}
 use Rattle.laws.specs.Facts.{Sound, sound-facts}
-use Rattle.laws.specs.Pumped.{pump-facts, each-fits, adds-most, takes-most, sound-pumped, limit-pumped}
-use Rattle.laws.specs.PumpedSteps.{own-number, past-number, broken-limit}
+use Rattle.laws.specs.Pumped.{pump-facts, each-fits, sound-pumped}
+use Rattle.laws.specs.PumpChecks.{at-most-64, added-most, taken-most}
+use Rattle.laws.specs.PumpedSteps.{past-number, number-pumped}
 use Rattle.transfers.specs.Known.{SoundState}
 use Rattle.advance.specs.Advance.{StepRoom, Advanced}
 use Rattle.pumps.specs.declared.Acted.{Acted}
@@ -28,7 +29,7 @@ not-0 false e = suc-ne-zero 3 e
 
 module _ {c : Card} {g s ps found t n : List ℤ} (room : PumpedRoom c g s ps found t n) where
   pub pumpable : Pumpable s ps found
-  pumpable = record { card = c; ground = g; sound = room .sound; fit = room .fit; few = room .few; room = room .room }
+  pumpable = record { card = c; ground = g; sound = room .sound; fit = room .pumps .fit; few = at-most-64 (room .pumps); room = room .room }
 
   module _ {acted : Acted} {s′ found′ : List ℤ} (p : Pumped ps s acted s′ found′) where
     -- ---- an inlet passed the top
@@ -60,7 +61,7 @@ module _ {c : Card} {g s ps found t n : List ℤ} (room : PumpedRoom c g s ps fo
       inlets = sym (p .fits) ∙ fit
 
       pumped-sound : Sound c g s′
-      pumped-sound = subst (λ (x : List ℤ). Sound c g x) (sym (p .state fit)) (sound-pumped c ps (room .fit) g s inlets (room .sound))
+      pumped-sound = subst (λ (x : List ℤ). Sound c g x) (sym (p .state fit)) (sound-pumped c ps (room .pumps .fit) g s inlets (room .sound))
 
       pub step-room : StepRoom c g s′ t n
       step-room = record { sound = pumped-sound; tide = room .tide; next = room .next }
@@ -68,30 +69,24 @@ module _ {c : Card} {g s ps found t n : List ℤ} (room : PumpedRoom c g s ps fo
       pub undoable : length found′ ≡ length found → (count : ℕ) → count ≤ pumpCount ps → Undoable s′ ps found′ count
       undoable kept count most = record {
         few = most;
-        room = omega (arith, most, room .few, room .room, kept);
+        room = omega (arith, most, at-most-64 (room .pumps), room .room, kept);
         cells-held = λ k h.
-            let f = pump-facts c (pumpAt ps k) (each-fits c ps (room .fit) k (omega (arith, h, most))) in
+            let f = pump-facts c (pumpAt ps k) (each-fits c ps (room .pumps .fit) k (omega (arith, h, most))) in
             (f .whole, omega (arith, f .place, sound-facts c g s′ pumped-sound .lengths .heights));
       }
 
       -- the step from the pumped state, by a rule
       module _ {rule : Rule} {k : ℕ} {made : List ℤ} (a : Advanced rule c g s′ k made) where
         number-is : k ≡ pumpedStepBy rule c g ps .number s
-        unfolding pumpedNumber
-        number-is =
-            a .number
-            ∙ ap (stepNumberBy rule c g) (p .state fit)
-            ∙ sym (own-number (limitKept c (readState c s)) (inletsFit ps s) (stepNumberBy rule c g (pumped ps s)) inlets
-            (λ l. broken-limit rule c g (pumped ps s) (limit-pumped c ps (room .fit) s ∙ l)))
+        number-is = a .number ∙ ap (stepNumberBy rule c g) (p .state fit) ∙ sym (number-pumped rule c g ps (room .pumps) s inlets)
 
         pub moved : {last : List ℤ} → ((k ≡ 0 → ⊥) → last ≡ s) → PumpedAdvanced rule c g ps s (record { number = k; added = acted .added; taken = acted .taken }) last made
-        unfolding addedBy takenBy
         moved undone = record {
           number = number-is;
           state = λ z. a .state z ∙ ap (nextStateBy rule c g) (p .state fit);
           added = λ z. p .added fit;
           taken = λ z. p .taken fit;
           undone = undone;
-          few-added = omega (arith, p .added fit, adds-most c ps (pumpCount ps) (each-fits c ps (room .fit)), room .few);
-          few-taken = omega (arith, p .taken fit, takes-most c ps s (pumpCount ps) (each-fits c ps (room .fit)), room .few);
+          few-added = omega (arith, p .added fit, added-most c ps (room .pumps));
+          few-taken = omega (arith, p .taken fit, taken-most c ps (room .pumps) s);
         }

@@ -1,22 +1,21 @@
 -- What one pumped step of a sound site requires of its lists, and what it gives.
-use Prim.Native.Nat.{ℕ, _≤_}
+use Prim.Native.Nat.{_≤_}
 use mathlib.Core.Path.{_≡_}
-use mathlib.Core.Bool.{true}
 use mathlib.Core.List.{List}
 use lib.IntN.{ℤ}
 use lib.ListN.{length}
 use Rattle.rules.specs.declared.Card.{Card}
 use Rattle.rules.specs.Site.{stateLength}
 use Rattle.rules.specs.Step.{Rule}
-use Rattle.rules.specs.Pumps.{pumpCount, pumpsFit, pumpedStepBy, addedBy, takenBy}
+use Rattle.rules.specs.Pumps.{pumpedStepBy, addedBy, takenBy}
 use Rattle.laws.specs.Facts.{Sound}
+use Rattle.laws.specs.PumpChecks.{PumpsPass}
 use Rattle.pumped.specs.declared.Moved as Struct
 
--- a sound site with pumps that fit, room for the heights that they find, a tide and a next state
+-- a sound site with pumps that pass, room for the heights that they find, a tide and a next state
 pub record PumpedRoom (c : Card) (g s ps found t n : List ℤ) : Type 0 where
   pub sound : Sound c g s
-  pub fit : pumpsFit c ps ≡ true
-  pub few : pumpCount ps ≤ 64
+  pub pumps : PumpsPass c ps
   pub room : 64 ≤ length found
   pub tide : length t ≡ stateLength c
   pub next : length n ≡ stateLength c

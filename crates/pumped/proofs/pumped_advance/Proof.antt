@@ -2,12 +2,12 @@
 use mathlib.Core.Path.{_∙_}
 use borrow.Author.Needs.{needs}
 use borrow.Author.Tests.{not-true, not-false}
-use Rattle.pumped.proofs.Answers.{still-sound, refused-inlet, step-room, undoable, moved}
+use Rattle.pumped.proofs.Answers.{pumpable, still-sound, refused-inlet, step-room, undoable, moved}
 use Rattle.pumped.proofs.pumped_advance.Statement.{statement}
 use Rattle.pumped.proofs.pumped_advance.Tie as tie
 
 pump-requires : tie.Need-pump-requires
-pump-requires c κs = search needs
+pump-requires c κs = pumpable (c .before .before .pre)
 
 over-the-top-requires : tie.Need-over-the-top-requires
 over-the-top-requires c κs = still-sound (c .before .before .before .before .before .before .before .before .pre) (c .before .before .before .before .before .pump .ensures) (search (not-true, needs))

@@ -6,7 +6,6 @@ use lib.ListN.{length}
 use borrow.Author.Needs.{needs}
 use mir.Facts.{toZ-ofZ}
 use Rattle.rules.specs.Site.{stateLength}
-use Rattle.laws.specs.PumpChecks.{at-most-64}
 use Rattle.steps.proofs.Loop.{Running, few-steps, cells-held, peak-is, begins, stops, room-for, goes-on, ends}
 use Rattle.steps.proofs.steps.Statement.{statement}
 use Rattle.steps.proofs.steps.Tie as tie
@@ -74,7 +73,7 @@ pumped-advance-requires : tie.Need-pumped-advance-requires Inv-loop μ-loop
 pumped-advance-requires c κs =
     let i = c .before .before .before .before .before .loop .inv in
     let p = c .before .before .before .before .before .before .before .before .before .before .pre in
-    record { sound = i .0 .sound; fit = p .pass .fit; few = at-most-64 (p .pass); room = omega (arith, i .3); tide = i .2; next = i .1 }
+    record { sound = i .0 .sound; pumps = p .pass; room = omega (arith, i .3); tide = i .2; next = i .1 }
 
 same-length : tie.Need-same-length Inv-loop μ-loop
 same-length c = search needs
