@@ -61,6 +61,21 @@ back a = record { low = λ v. sym (a .low v); high = λ v. sym (a .high v) }
 pub zero-alike : (e : ℤ) → Alike (fin true 0 e) (fin false 0 e)
 zero-alike e = record { low = zero-low e; high = zero-high e }
 
+-- -0 and 0 make 0, and any other float stays what it is
+abbrev pub unsignedZero : Float → Float
+unsignedZero nan = nan
+unsignedZero (inf s) = inf s
+unsignedZero (fin false m e) = fin false m e
+unsignedZero (fin true zero e) = fin false zero e
+unsignedZero (fin true (suc m) e) = fin true (suc m) e
+
+unsigned-alike : (x : Float) → Alike (unsignedZero x) x
+unsigned-alike nan = alike nan
+unsigned-alike (inf s) = alike (inf s)
+unsigned-alike (fin false m e) = alike (fin false m e)
+unsigned-alike (fin true zero e) = back (zero-alike e)
+unsigned-alike (fin true (suc m) e) = alike (fin true (suc m) e)
+
 -- ---- What a format holds rounds to itself
 
 module _ (f : Format) where
@@ -140,23 +155,23 @@ module _ (f : Format) where
   unfolding add
   plus-zero s m e = rw (at-zero (pos 0) e, mul-one (m * up e), mul-one (down e))
 
-  -- -0 and 0 make 0, and any other float stays what it is
-  and-zero : (x : Float) → T (fits f x) → Alike (add f x (fin false 0 (pos 0))) x
+  plus-zero-is : (x : Float) → T (fits f x) → add f x (fin false 0 (pos 0)) ≡ unsignedZero x
   unfolding add fits
-  and-zero nan h = alike nan
-  and-zero (inf s) h = alike (inf s)
-  and-zero (fin false m e) h = as-equal (plus-zero false m e ∙ same-sign false (m * up e) (down e) ∙ round-own false m e h)
-  and-zero (fin true zero e) h =
-      through
-      (as-equal (plus-zero true 0 e ∙ other-sign true (0 * up e) (down e) ∙ ap (λ (b : Bool). round f b (0 * up e) (down e)) (ap (ltb 0) (zero-mul (up e))) ∙ round-own false 0 e h))
-      (back (zero-alike e))
-  and-zero (fin true (suc m) e) h =
-      as-equal (plus-zero true (suc m) e ∙ other-sign true (suc m * up e) (down e) ∙ ap (λ (b : Bool). round f b (suc m * up e) (down e)) (lt-ltb 0 (suc m * up e) (mul-pos (zero-lt-suc m) (up-pos e))) ∙ round-own true (suc m) e h)
+  plus-zero-is nan h = refl
+  plus-zero-is (inf s) h = refl
+  plus-zero-is (fin false m e) h = plus-zero false m e ∙ same-sign false (m * up e) (down e) ∙ round-own false m e h
+  plus-zero-is (fin true zero e) h =
+      plus-zero true 0 e ∙ other-sign true (0 * up e) (down e) ∙ ap (λ (b : Bool). round f b (0 * up e) (down e)) (ap (ltb 0) (zero-mul (up e))) ∙ round-own false 0 e h
+  plus-zero-is (fin true (suc m) e) h =
+      plus-zero true (suc m) e ∙ other-sign true (suc m * up e) (down e) ∙ ap (λ (b : Bool). round f b (suc m * up e) (down e)) (lt-ltb 0 (suc m * up e) (mul-pos (zero-lt-suc m) (up-pos e))) ∙ round-own true (suc m) e h
 
--- a literal 0.0 added to what no test tells from y, or taken from it
-pub plus-nothing : {x y : Float} → T (fits binary64 x) → Alike x y → Alike (add binary64 x (ofBits binary64 0)) y
+-- a literal 0.0 added; and added to what no test tells from y, or taken from it
+pub plus-nothing-is : (x : Float) → T (fits binary64 x) → add binary64 x (ofBits binary64 0) ≡ unsignedZero x
 unfolding ofBits
-plus-nothing {x} h a = through (and-zero binary64 x h) a
+plus-nothing-is x h = plus-zero-is binary64 x h
+
+pub plus-nothing : {x y : Float} → T (fits binary64 x) → Alike x y → Alike (add binary64 x (ofBits binary64 0)) y
+plus-nothing {x} h a = through (as-equal (plus-nothing-is x h)) (through (unsigned-alike x) a)
 
 pub minus-nothing : {x y : Float} → T (fits binary64 x) → Alike x y → Alike (sub binary64 x (ofBits binary64 0)) y
 unfolding ofBits

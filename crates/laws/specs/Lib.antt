@@ -58,3 +58,4 @@ pub mod Listings
 pub mod SignTests
 pub mod Swapped
 pub mod Floats
+pub mod Nearest

@@ -1,23 +1,28 @@
 -- Document 01, "Calls and their numbers": of every public call, what it returns and what each lent list holds at exit, for every input.
 -- `checkAlso` and its instances `check` (Site.antt) and `checkPumpedWith` (Pumps.antt) give the lowest number of the first three checks that applies; `firstRefusal`
 -- puts a later number behind it; `ifDone` says what is left where the number is 0, and where not (Site.antt).
-use Prim.Native.Nat.{ℕ}
+use Prim.Native.Nat.{ℕ, zero, suc}
 use mathlib.Core.Bool.{true, cond}
 use mathlib.Core.List.{List, [], _++_}
 use lib.ListN.{length, drop, replicate}
 use lib.IntN.{ℤ, pos}
 use lib.Dec.{leb}
+use lib.Ieee.{Float}
 use Rattle.rules.specs.declared.Card.{Card}
 use Rattle.rules.specs.declared.Tally.{Tally}
 use Rattle.rules.specs.declared.Window.{Window}
 use Rattle.rules.specs.declared.Found.{Found}
 use Rattle.rules.specs.declared.Heard.{Heard}
 use Rattle.rules.specs.declared.Wrote.{Wrote}
+use Rattle.rules.specs.declared.Reading.{Reading}
+use Rattle.rules.specs.declared.Reading.the-variants.{Metres, Feet, Nothing}
+use Rattle.rules.specs.declared.Staff.{Staff}
 use Rattle.rules.specs.Site.{checkAlso, check, firstRefusal, ifDone}
 use Rattle.rules.specs.Step.{Rule, newVelocity}
 use Rattle.rules.specs.Textbook.{textbookVelocity}
 use Rattle.rules.specs.Pumps.{checkPumpedWith, pumpedStepBy, PumpedOutcome, pumpedRunAfter}
 use Rattle.rules.specs.Search.{registerFits, askedFits, listOf}
+use Rattle.rules.specs.Staff.{product, withoutHeight, measured}
 use Rattle.rules.specs.Sheet.{sheetSize, sheetOf, cardIn, groundIn, stateIn, readNumber, noCard}
 use Rattle.rules.specs.Text.{depthText, fitted}
 
@@ -115,3 +120,18 @@ textPart h scratch = fitted (depthText h) (length scratch)
 
 unfoldable pub textScratch : (height : ℤ) (scratch : List ℕ) → List ℕ
 textScratch h scratch = textPart h scratch ++ drop (length (textPart h scratch)) scratch
+
+-- ---- Staff reading (document 02, [1]): the number, whether there is a height, and the height. Refused: no height, 0.
+
+-- metres are multiplied by 1,000,000 and feet by 304,800
+unfoldable pub staffAnswer : Reading → Staff
+staffAnswer (Metres v) = measured v (product 1000000 v)
+staffAnswer (Feet v) = measured v (product 304800 v)
+staffAnswer Nothing = withoutHeight 0
+
+-- Across C a reading is its kind and a value: 0 is no reading, whatever the value, 1 metres, 2 feet; any other kind is refused with 3.
+unfoldable pub kindAnswer : (kind : ℕ) (value : Float) → Staff
+kindAnswer zero v = staffAnswer Nothing
+kindAnswer (suc zero) v = staffAnswer (Metres v)
+kindAnswer (suc (suc zero)) v = staffAnswer (Feet v)
+kindAnswer (suc (suc (suc k))) v = withoutHeight 3

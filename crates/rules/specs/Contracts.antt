@@ -5,6 +5,7 @@ use mathlib.Core.Path.{_≡_}
 use mathlib.Core.List.{List}
 use lib.IntN.{ℤ}
 use lib.ListN.{length}
+use lib.Ieee.{Float}
 use Rattle.rules.specs.declared.Card.{Card}
 use Rattle.rules.specs.declared.Tally.{Tally}
 use Rattle.rules.specs.declared.Window.{Window}
@@ -12,10 +13,12 @@ use Rattle.rules.specs.declared.Chamber.{Chamber}
 use Rattle.rules.specs.declared.Found.{Found}
 use Rattle.rules.specs.declared.Heard.{Heard}
 use Rattle.rules.specs.declared.Wrote.{Wrote}
+use Rattle.rules.specs.declared.Reading.{Reading}
+use Rattle.rules.specs.declared.Staff.{Staff}
 use Rattle.rules.specs.Search.{xsOf, ysOf}
 use Rattle.rules.specs.Step.{Rule, newVelocity}
 use Rattle.rules.specs.Textbook.{textbookVelocity}
-use Rattle.rules.specs.Calls.{stepAnswerBy, stepNextBy, runTally, runState, runScratch, searchAnswer, searchFound, readAnswer, readGroundList, readStateList, writeAnswer, writeBytes, textPart, textScratch}
+use Rattle.rules.specs.Calls.{stepAnswerBy, stepNextBy, runTally, runState, runScratch, searchAnswer, searchFound, readAnswer, readGroundList, readStateList, writeAnswer, writeBytes, textPart, textScratch, staffAnswer, kindAnswer}
 
 -- ---- step, over the rule for new velocities; by the first engine, and by the textbook's
 
@@ -63,3 +66,11 @@ pub record WriteContract (c : Card) (ground state : List ℤ) (bytes : List ℕ)
 pub record TextContract (height : ℤ) (scratch : List ℕ) (count : ℕ) (scratchAtExit : List ℕ) : Type 0 where
   pub answer : count ≡ length (textPart height scratch)
   pub scratch-exit : scratchAtExit ≡ textScratch height scratch
+
+-- ---- staff reading, as an enum and by its kind
+
+pub record StaffContract (reading : Reading) (answered : Staff) : Type 0 where
+  pub answer : answered ≡ staffAnswer reading
+
+pub record KindContract (kind : ℕ) (value : Float) (answered : Staff) : Type 0 where
+  pub answer : answered ≡ kindAnswer kind value

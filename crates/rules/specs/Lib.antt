@@ -6,6 +6,7 @@ pub mod Run
 pub mod Pumps
 pub mod Turn
 pub mod Search
+pub mod Staff
 pub mod Sheet
 pub mod Text
 pub mod Play

@@ -1,12 +1,16 @@
--- Document 01, "Numbers to check by": the starred cases, in a single table under a single claim, proved by computation; and cases of document 02's [9], [8], [2], [5] and [10].
+-- Document 01, "Numbers to check by": the starred cases, in a single table under a single claim, proved by computation; and cases of document 02's [9], [8], [2], [5], [10] and [1].
 -- Each row of a step's call is made by both engines ([5]).
 use Prim.Native.Nat.{ℕ}
 use mathlib.Core.Path.{_≡_, refl}
 use mathlib.Core.List.{List, [], _∷_, _++_}
 use lib.ListN.{replicate}
 use lib.IntN.{ℤ, pos, negℤ}
+use lib.Ieee.{Float, binary64, size, span, climb, odd, units, round, mul, ofInt, ofFields, ofBits}
+use lib.Count.{trailingZeros}
 use Rattle.rules.specs.declared.Card.{Card}
 use Rattle.rules.specs.declared.Face.{Face}
+use Rattle.rules.specs.declared.Reading.{Reading}
+use Rattle.rules.specs.declared.Reading.the-variants.{Metres, Feet, Nothing}
 use Rattle.rules.specs.Grid.{tabulate, grid, all, allAt, greatest, sum, sumAt}
 use Rattle.rules.specs.Site.{readGround, readState, writeState, stateLength, sumOfHeights, sizesFit, sidesFit, timesFit, cardFits, lengthsFit, groundsFit, heightsFit, velocitiesFit, wallsStill, valuesFit, firstOf, checkAlso, firstRefusal, ifDone}
 use Rattle.rules.specs.Step.{walled, transfer, eastTransfer, northTransfer, forward, backward, withinLimit, newHeight, after, before, eastFace, northFace, outAhead, outBehind, outAbove, outBelow, positive, ownShare, brought, carried, rise, slope, isBank, dryBank, newVelocityBy, newEast, newNorth, next, limitKept, newHeightsFit, newVelocitiesFit, answer, number, stepNumberBy, nextStateBy, nextState}
@@ -14,7 +18,8 @@ use Rattle.rules.specs.Textbook.{pressure, pressureTerm, groundTerm, tex
 use Rattle.rules.specs.Run.{peak, started, accepted, stoppedFor, runOn, runFrom, history, runAfter}
 use Rattle.rules.specs.Pumps.{pumpAt, fewPumps, wholePumps, pumpFits, pumpsFit, checkPumped, checkPumpedWith, adds, takes, heightAfter, afterPump, afterPumps, addsUpTo, takesUpTo, pumped, addedBy, takenBy, turnFits, inletsFit, pumpedNumber, addedOver, takenOver, reported, pumpedRunAfter, pumpedRun}
 use Rattle.rules.specs.Text.{digitsOf, decimal, heightText, depthText}
-use Rattle.rules.specs.Calls.{stepAnswerBy, stepNextBy, stepAnswer, stepNext, textbookAnswer, textbookNext}
+use Rattle.rules.specs.Staff.{product, valueFits, productFits, nearestWhole, withHeight, withoutHeight, measured}
+use Rattle.rules.specs.Calls.{stepAnswerBy, stepNextBy, stepAnswer, stepNext, textbookAnswer, textbookNext, staffAnswer, kindAnswer}
 
 -- sides 1,000,000 and dt 100; one row
 unfoldable pub oneRow : (columns : ℕ) → Card
@@ -81,6 +86,13 @@ PumpedSteps s ps then = Leaves 2 (flat 2) s ps 0 then
 abbrev pub PumpedRefuses : (state pumps : List ℤ) (number : ℕ) → Type 0
 PumpedRefuses s ps k = Leaves 2 (flat 2) s ps k s
 
+-- a value of a staff reading, its float given by its bits, gives this height; or is refused
+abbrev pub Gives : (unit : Float → Reading) (bits height : ℕ) → Type 0
+Gives unit b h = staffAnswer (unit (ofBits binary64 b)) ≡ withHeight (pos h)
+
+abbrev pub Gives3 : (unit : Float → Reading) (bits : ℕ) → Type 0
+Gives3 unit b = staffAnswer (unit (ofBits binary64 b)) ≡ withoutHeight 3
+
 pub record Starred : Type 0 where
   -- two heights, still: heights stay, the middle velocity is 980,665; and the second step
   pub first-step : Steps 2 (flat 2) (two (pos 2000000) (pos 1000000) (pos 0)) (two (pos 2000000) (pos 1000000) (pos 980665))
@@ -135,6 +147,41 @@ pub record Starred : Type 0 where
   pub amount-too-small : PumpedRefuses (two (pos 7) (pos 7) (pos 0)) (pos 1 ∷ negℤ (pos 1000001) ∷ []) 3
   -- [10], a run: the first step finds 300 to take and the second nothing; the third is refused by its inlet, and what its pump would take does not count
   pub totals : pumpedRun (slowRow 9) (flat 2) (two (pos 300) (pos 48000100) (pos 0)) (pos 0 ∷ negℤ (pos 1000) ∷ pos 1 ∷ pos 900000 ∷ []) ≡ record { tally = record { steps = 2; reason = 5; top = pos 49776219; added = 1800000; taken = 300 }; state = two (pos 23881) (pos 49776219) (negℤ (pos 967219)) }
+  -- [1], 1.5 m, 1 ft, -0.0 m and -0.0 ft, no reading
+  pub metres : Gives Metres 0x3ff8_0000_0000_0000 1500000
+  pub foot : Gives Feet 0x3ff0_0000_0000_0000 304800
+  pub minus-zero : Gives Metres 0x8000_0000_0000_0000 0
+  pub minus-zero-feet : Gives Feet 0x8000_0000_0000_0000 0
+  pub no-reading : staffAnswer Nothing ≡ withoutHeight 0
+  -- [1], 50 m, and the next float above it, whose product 50,000,000.00000001 would go to 50,000,000; so would 50.0000004 m; 164.04199475065616 ft are 50,000,000, and the next float above
+  pub fifty-metres : Gives Metres 0x4049_0000_0000_0000 50000000
+  pub above-fifty-metres : Gives3 Metres 0x4049_0000_0000_0001
+  pub into-range-if-rounded : Gives3 Metres 0x4049_0000_035a_fe53
+  pub fifty-metres-in-feet : Gives Feet 0x4064_8158_0560_1580 50000000
+  pub above-fifty-metres-in-feet : Gives3 Feet 0x4064_8158_0560_1581
+  -- [1], halves go up: 1/128 m is 7,812.5, 1/64 ft is 4,762.5, 49.9999995 m is 49,999,999.5
+  pub half-up : Gives Metres 0x3f80_0000_0000_0000 7813
+  pub half-up-in-feet : Gives Feet 0x3f90_0000_0000_0000 4763
+  pub half-up-at-the-top : Gives Metres 0x4048_ffff_fbce_4218 50000000
+  -- [1], the float of 0.0000005 m is a little less, but its product is rounded once as floats do, to 0.5: it gives 1; the next float below gives 0
+  pub half-a-micrometre : Gives Metres 0x3ea0_c6f7_a0b5_ed8d 1
+  pub less-than-half : Gives Metres 0x3ea0_c6f7_a0b5_ed8c 0
+  -- [1], a product of 0.49999999999999994 gives 0, though with 0.5 added as a float it is 1
+  pub no-half-added : Gives Feet 0x3ebb_858c_ce85_2599 0
+  -- [1], the smallest float above 0, and below it; the greatest, whose product overflows; both infinities; a NaN, by the bits of three
+  pub smallest : Gives Metres 1 0
+  pub smallest-below : Gives3 Metres 0x8000_0000_0000_0001
+  pub overflows : Gives3 Feet 0x7fef_ffff_ffff_ffff
+  pub infinity : Gives3 Metres 0x7ff0_0000_0000_0000
+  pub infinity-below : Gives3 Feet 0xfff0_0000_0000_0000
+  pub quiet-nan : Gives3 Metres 0x7ff8_0000_0000_0000
+  pub signalling-nan : Gives3 Feet 0x7ff0_0000_0000_0001
+  pub negative-nan : Gives3 Metres 0xffff_ffff_ffff_ffff
+  -- [1], by kinds: 0 is no reading, whatever the value, here a NaN; 1 m, 1 ft; there is no kind 3
+  pub kind-0 : kindAnswer 0 (ofBits binary64 0x7ff8_0000_0000_0000) ≡ staffAnswer Nothing
+  pub kind-1 : kindAnswer 1 (ofBits binary64 0x3ff0_0000_0000_0000) ≡ withHeight (pos 1000000)
+  pub kind-2 : kindAnswer 2 (ofBits binary64 0x3ff0_0000_0000_0000) ≡ withHeight (pos 304800)
+  pub kind-3 : kindAnswer 3 (ofBits binary64 0x3ff0_0000_0000_0000) ≡ withoutHeight 3
   -- "dry", "<1 cm", "1 cm", "2 cm"
   pub text-0 : depthText (pos 0) ≡ 100 ∷ 114 ∷ 121 ∷ []
   pub text-9999 : depthText (pos 9999) ≡ 60 ∷ 49 ∷ 32 ∷ 99 ∷ 109 ∷ []
@@ -142,7 +189,7 @@ pub record Starred : Type 0 where
   pub text-15000 : depthText (pos 15000) ≡ 50 ∷ 32 ∷ 99 ∷ 109 ∷ []
 
 pub starred : Starred
-unfolding oneRow flat two passing three pondGround pond pondFace through square four tabulate grid all allAt greatest sum sumAt readGround readState writeState stateLength sumOfHeights sizesFit sidesFit timesFit cardFits lengthsFit groundsFit heightsFit velocitiesFit wallsStill valuesFit firstOf checkAlso firstRefusal ifDone walled transfer eastTransfer northTransfer forward backward withinLimit newHeight after before eastFace northFace outAhead outBehind outAbove outBelow positive ownShare brought carried rise slope isBank dryBank newVelocityBy newEast newNorth next limitKept newHeightsFit newVelocitiesFit answer number stepNumberBy nextStateBy pressure pressureTerm groundTerm textbookRise digitsOf decimal heightText depthText stepAnswerBy stepNextBy slowRow peak started accepted stoppedFor runOn runFrom history runAfter pumpAt fewPumps wholePumps pumpFits pumpsFit checkPumped checkPumpedWith adds takes heightAfter afterPump afterPumps addsUpTo takesUpTo pumped addedBy takenBy turnFits inletsFit pumpedNumber addedOver takenOver reported pumpedRunAfter pumpedRun
+unfolding oneRow flat two passing three pondGround pond pondFace through square four tabulate grid all allAt greatest sum sumAt readGround readState writeState stateLength sumOfHeights sizesFit sidesFit timesFit cardFits lengthsFit groundsFit heightsFit velocitiesFit wallsStill valuesFit firstOf checkAlso firstRefusal ifDone walled transfer eastTransfer northTransfer forward backward withinLimit newHeight after before eastFace northFace outAhead outBehind outAbove outBelow positive ownShare brought carried rise slope isBank dryBank newVelocityBy newEast newNorth next limitKept newHeightsFit newVelocitiesFit answer number stepNumberBy nextStateBy pressure pressureTerm groundTerm textbookRise digitsOf decimal heightText depthText stepAnswerBy stepNextBy slowRow peak started accepted stoppedFor runOn runFrom history runAfter pumpAt fewPumps wholePumps pumpFits pumpsFit checkPumped checkPumpedWith adds takes heightAfter afterPump afterPumps addsUpTo takesUpTo pumped addedBy takenBy turnFits inletsFit pumpedNumber addedOver takenOver reported pumpedRunAfter pumpedRun span climb size odd units round mul ofInt ofFields ofBits trailingZeros product valueFits productFits nearestWhole withHeight withoutHeight measured staffAnswer kindAnswer
 starred = record {
   first-step = (refl, refl, refl, refl);
   second-step = (refl, refl, refl, refl);
@@ -179,6 +226,34 @@ starred = record {
   amount-too-great = (refl, refl, refl, refl);
   amount-too-small = (refl, refl, refl, refl);
   totals = refl;
+  metres = refl;
+  foot = refl;
+  minus-zero = refl;
+  minus-zero-feet = refl;
+  no-reading = refl;
+  fifty-metres = refl;
+  above-fifty-metres = refl;
+  into-range-if-rounded = refl;
+  fifty-metres-in-feet = refl;
+  above-fifty-metres-in-feet = refl;
+  half-up = refl;
+  half-up-in-feet = refl;
+  half-up-at-the-top = refl;
+  half-a-micrometre = refl;
+  less-than-half = refl;
+  no-half-added = refl;
+  smallest = refl;
+  smallest-below = refl;
+  overflows = refl;
+  infinity = refl;
+  infinity-below = refl;
+  quiet-nan = refl;
+  signalling-nan = refl;
+  negative-nan = refl;
+  kind-0 = refl;
+  kind-1 = refl;
+  kind-2 = refl;
+  kind-3 = refl;
   text-0 = refl;
   text-9999 = refl;
   text-10000 = refl;

@@ -101,3 +101,18 @@ pub struct Wrote {
     pub number: u32,
     pub size: u32,
 }
+
+// What an inspector typed off a gauge staff.
+pub enum Reading {
+    Metres(f64),
+    Feet(f64),
+    Nothing,
+}
+
+// What a reading is answered by: the number, whether there is a height (1 or 0), and the height in micrometres.
+#[repr(C)]
+pub struct Staff {
+    pub number: u32,
+    pub read: u32,
+    pub height: i32,
+}

@@ -1,16 +1,20 @@
 // What a host may call. Every call takes any input at all: it checks what it was given and answers by document 01's numbers, and its contract
 // (rules, Contracts.antt) fixes the answer and what each list that was lent to be written holds at exit.
-ghost use Rattle.rules.specs.Contracts.{StepContract, TextbookContract, RunContract, SearchContract, RowSearchContract, ReadContract, WriteContract, TextContract};
+ghost use Rattle.rules.specs.Contracts.{StepContract, TextbookContract, RunContract, SearchContract, RowSearchContract, ReadContract, WriteContract, TextContract, KindContract};
 use rules::Card;
 use rules::Chamber;
 use rules::Found;
 use rules::Heard;
+use rules::Staff;
 use rules::Tally;
 use rules::Window;
 use rules::Wrote;
 
 // The depth text for callers in Rattle: the part that was written is handed back. Across C its length is what can be handed over, as water_depth_text does.
 pub use text::depth_text;
+
+// The height of a staff reading for callers in Rattle, as an enum. No enum can be handed over across C: water_staff takes its kind and its value.
+pub use staff::staff_height;
 
 // One step: its number, and the next state. Refused: the next state as lent. Pumps are lent as words, cell and amount by turns; they act before the step.
 #[no_mangle]
@@ -129,4 +133,13 @@ pub extern "C" fn water_depth_text(height: i32, scratch: &mut [u8]) -> usize
     ensures { λ r. ⌜ TextContract height (now (scratch .entry)) r (now (scratch .exit)) ⌝ }
 {
     text::write_text(height, scratch)
+}
+
+// What an inspector typed off a gauge staff, by its kind (0 no reading, 1 metres, 2 feet) and its value: the number, whether there is a height, and the height.
+// Refused with 3, any other kind too: no height.
+#[no_mangle]
+pub extern "C" fn water_staff(kind: u32, value: f64) -> Staff
+    ensures { λ r. ⌜ KindContract kind value r ⌝ }
+{
+    staff::staff_of_kind(kind, value)
 }

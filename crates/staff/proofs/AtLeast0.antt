@@ -1,0 +1,105 @@
+-- A float at or above 0, as `0.0 <= x` tests it: it is no NaN, not below 0 as the definition has it, and its bits have no sign, but those of -0.0.
+use Prim.Native.Nat.{ℕ, zero, suc, _+_, _-_, _*_, _/_, _^_, _≤_, _<_, zero-le}
+use mathlib.Core.Path.{_≡_, refl, sym, ap, _∙_, subst}
+use mathlib.Core.Bool.{Bool, true, false, not, _&&_, _||_, Bool·beq, cond}
+use native.Mathlib.Nat.{le-trans, le-of-eq, lt-irrefl, zero-lt-suc, mul-pos, add-assoc, zero-add, zero-mul, zero-div, mul-one}
+use native.Mathlib.Omega.{arith}
+use lib.Dec.{T, ltb, eqb, eqb·zero-suc, eqb·suc-zero, lit<, lit≤}
+use lib.IntN.{ℤ, pos}
+use lib.Ieee.{Float, nan, inf, fin, Format, binary64, prec, emax, low, fits, isNan, up, down, round, units, odd, sum, add, size, hid, le, lt, eq, ofBits, toBits}
+use lib.Ieee.Bits.{toBits-lt}
+use lib.Ieee.Fits.{up-pos, down-pos, round-is}
+use lib.Ieee.Order.{le-of-values}
+use Rattle.laws.specs.Tests.{true-of}
+
+not-0 : (n : ℕ) → 0 < n → eqb 0 n ≡ false
+not-0 zero h = absurd (lt-irrefl 0 h)
+not-0 (suc n) h = eqb·zero-suc n
+
+pub at-least-0 : (s : Bool) (m : ℕ) (e : ℤ) → le (ofBits binary64 0) (fin s m e) ≡ (not s || eqb m 0)
+unfolding le lt eq ofBits
+at-least-0 false m e =
+    true-of (le (fin false 0 (pos 0)) (fin false m e))
+    (le-of-values (fin false 0 (pos 0)) (fin false m e) 0 1 (m * up e) (down e) (lit< tt) (down-pos e) (refl, refl) (refl, refl) (le-trans (le-of-eq (zero-mul (down e))) zero-le))
+at-least-0 true zero e = rw (zero-mul (down e), zero-mul (up e))
+at-least-0 true (suc m) e = rw (zero-mul (down e), mul-one (suc m * up e), not-0 (suc m * up e) (mul-pos (zero-lt-suc m) (up-pos e))) (sym (eqb·suc-zero m))
+
+pub as-tested : (v : Float) → le (ofBits binary64 0) v ≡ true → T (le (ofBits binary64 0) v)
+as-tested v e = subst T (sym e) tt
+
+-- above 0 is at or above it
+pub if-above : (v : Float) → lt (ofBits binary64 0) v ≡ true → T (le (ofBits binary64 0) v)
+unfolding le
+if-above v e = subst (λ (b : Bool). T (b || eq (ofBits binary64 0) v)) (sym e) tt
+
+pub number : (x : Float) → T (le (ofBits binary64 0) x) → T (not (isNan x))
+unfolding le lt eq ofBits isNan
+number nan h = absurd h
+number (inf s) h = tt
+number (fin s m e) h = tt
+
+-- ---- No rounding gives a NaN, and what is added to a number leaves a number
+
+abbrev Number : Float → Type 0
+Number x = T (not (isNan x))
+
+one-of : (b : Bool) (x y : Float) → Number x → Number y → Number (cond b x y)
+one-of true x y h k = h
+one-of false x y h k = k
+
+odd-number : (d : ℕ) (s : Bool) (q k l : ℕ) → Number (odd d s q k l)
+unfolding odd isNan
+odd-number d s zero k l = tt
+odd-number d s (suc q) k l = tt
+
+units-number : (f : Format) (s : Bool) (q k : ℕ) → Number (units f s q k)
+unfolding units isNan
+units-number f s q k = one-of (ltb (q * 2 ^ k) (2 ^ (low f + suc (emax f)))) (odd (suc (prec f)) s q k (low f)) (inf s) (odd-number (suc (prec f)) s q k (low f)) tt
+
+pub round-number : (f : Format) (s : Bool) (a c : ℕ) → Number (round f s a c)
+round-number f s a c =
+    subst (λ (x : Float). Number x) (sym (round-is f s a c))
+    (units-number f s _ (size (a * 2 ^ low f / c) - prec f))
+
+pub plus-number : (x : Float) (s : Bool) (k : ℕ) (e : ℤ) → Number x → Number (add binary64 x (fin s k e))
+unfolding add sum isNan
+plus-number nan s k e h = absurd h
+plus-number (inf t) s k e h = tt
+plus-number (fin t m d) s k e h =
+    let a = m * up d * down e in
+    let b = k * up e * down d in
+    let c = down d * down e in
+    one-of (Bool·beq t s) (round binary64 t (a + b) c) (cond (ltb a b) (round binary64 s (b - a) c) (round binary64 (t && ltb b a) (a - b) c))
+    (round-number binary64 t (a + b) c)
+    (one-of (ltb a b) (round binary64 s (b - a) c) (round binary64 (t && ltb b a) (a - b) c) (round-number binary64 s (b - a) c) (round-number binary64 (t && ltb b a) (a - b) c))
+
+-- ---- The bits
+
+sign-added : (m : ℕ) (e : ℤ) → toBits binary64 (fin true m e) ≡ 0x8000_0000_0000_0000 + toBits binary64 (fin false m e)
+unfolding toBits
+sign-added m e =
+    let n = m * up e * 2 ^ 1074 / down e in
+    add-assoc 0x8000_0000_0000_0000 ((size n - 53) * hid binary64) (n / 2 ^ (size n - 53))
+    ∙ ap (λ (k : ℕ). 0x8000_0000_0000_0000 + (k + n / 2 ^ (size n - 53))) (sym (zero-add ((size n - 53) * hid binary64)))
+
+bits-of-0 : (e : ℤ) → toBits binary64 (fin false 0 e) ≡ 0
+unfolding toBits size
+bits-of-0 e =
+    ap (λ (n : ℕ). 0 + (size n - 53) * hid binary64 + n / 2 ^ (size n - 53))
+    (ap (λ (k : ℕ). k / down e) (ap (λ (k : ℕ). k * 2 ^ 1074) (zero-mul (up e)) ∙ zero-mul (2 ^ 1074)) ∙ zero-div (down e))
+
+infinity-below : toBits binary64 (inf false) ≤ 0x8000_0000_0000_0000
+unfolding toBits
+infinity-below = lit≤ tt
+
+pub no-sign : (x : Float) → T (fits binary64 x) → T (le (ofBits binary64 0) x) → toBits binary64 x ≤ 0x8000_0000_0000_0000
+unfolding le lt eq ofBits fits
+no-sign nan f h = absurd h
+no-sign (inf true) f h = absurd h
+no-sign (inf false) f h = infinity-below
+no-sign (fin false m e) f h = under (toBits binary64 (fin false m e)) (toBits binary64 (fin true m e)) (sign-added m e) (toBits-lt binary64 (fin true m e) f)
+  where
+    under : (u v : ℕ) → v ≡ 0x8000_0000_0000_0000 + u → v < 0x1_0000_0000_0000_0000 → u ≤ 0x8000_0000_0000_0000
+    under u v e l = omega arith
+no-sign (fin true zero e) f h = le-of-eq (sign-added 0 e ∙ ap (λ (k : ℕ). 0x8000_0000_0000_0000 + k) (bits-of-0 e))
+no-sign (fin true (suc m) e) f h = absurd (subst T (at-least-0 true (suc m) e ∙ eqb·suc-zero m) h)

@@ -1,0 +1,4 @@
+pub mod Parts
+pub mod AtLeast0
+pub mod Answers
+pub mod Products
