@@ -58,4 +58,5 @@ pub mod Listings
 pub mod SignTests
 pub mod Swapped
 pub mod Floats
+pub mod Rounded
 pub mod Nearest

@@ -6,11 +6,12 @@ use native.Mathlib.Nat.{le-trans, le-of-eq, lt-irrefl, zero-lt-suc, mul-pos, add
 use native.Mathlib.Omega.{arith}
 use lib.Dec.{T, ltb, eqb, eqb·zero-suc, eqb·suc-zero, lit<, lit≤}
 use lib.IntN.{ℤ, pos}
-use lib.Ieee.{Float, nan, inf, fin, Format, binary64, prec, emax, low, fits, isNan, up, down, round, units, odd, sum, add, size, hid, le, lt, eq, ofBits, toBits}
+use lib.Ieee.{Float, nan, inf, fin, Format, binary64, fits, isNan, up, down, round, sum, add, size, hid, le, lt, eq, ofBits, toBits}
 use lib.Ieee.Bits.{toBits-lt}
-use lib.Ieee.Fits.{up-pos, down-pos, round-is}
+use lib.Ieee.Fits.{up-pos, down-pos}
 use lib.Ieee.Order.{le-of-values}
 use Rattle.laws.specs.Tests.{true-of}
+use Rattle.laws.specs.Rounded.{rounded}
 
 not-0 : (n : ℕ) → 0 < n → eqb 0 n ≡ false
 not-0 zero h = absurd (lt-irrefl 0 h)
@@ -47,19 +48,9 @@ one-of : (b : Bool) (x y : Float) → Number x → Number y → Number (cond b x
 one-of true x y h k = h
 one-of false x y h k = k
 
-odd-number : (d : ℕ) (s : Bool) (q k l : ℕ) → Number (odd d s q k l)
-unfolding odd isNan
-odd-number d s zero k l = tt
-odd-number d s (suc q) k l = tt
-
-units-number : (f : Format) (s : Bool) (q k : ℕ) → Number (units f s q k)
-unfolding units isNan
-units-number f s q k = one-of (ltb (q * 2 ^ k) (2 ^ (low f + suc (emax f)))) (odd (suc (prec f)) s q k (low f)) (inf s) (odd-number (suc (prec f)) s q k (low f)) tt
-
-pub round-number : (f : Format) (s : Bool) (a c : ℕ) → Number (round f s a c)
-round-number f s a c =
-    subst (λ (x : Float). Number x) (sym (round-is f s a c))
-    (units-number f s _ (size (a * 2 ^ low f / c) - prec f))
+round-number : (f : Format) (s : Bool) (a c : ℕ) → Number (round f s a c)
+unfolding isNan
+round-number f s a c = rounded Number f s a c tt (λ m e. tt)
 
 pub plus-number : (x : Float) (s : Bool) (k : ℕ) (e : ℤ) → Number x → Number (add binary64 x (fin s k e))
 unfolding add sum isNan
