@@ -1,14 +1,15 @@
 /* water.h: what a host links. Documents 01 and 02, the papers that ordered the library, say what each call does, and so do the
  * definitions in crates/rules/specs, which stand in the repository; this page says how C reaches it.
  *
- * Every call takes any input at all: any card, any length, any word. Nothing is required of the caller but that each pointer
- * reaches as many elements as the length behind it says (a length of 0 allows any pointer, NULL too), and that a list that a
+ * Every call takes any input at all: any card, any length, any word, any double. Nothing is required of the caller but that each
+ * pointer reaches as many elements as the length behind it says (a length of 0 allows any pointer, NULL too), and that a list that a
  * call fills overlaps no other list of the same call. No call keeps state, allocates or fails in another way than by its number.
  *
  * Numbers: 0 done, 1 card out of range (or over 64 pumps), 2 a list has the wrong length (or over 1,000 chambers), 3 a value out of
- * range, a wall velocity not 0, a pump's cell that the site has not or a window edge not finite, 4 a cell breaks the step limit, 5 a new
- * height, or one that an inlet makes, exceeds 50,000,000, 7 a new velocity is out of range, 8 the lent room is too short, 9 not a sheet
- * of version 1. 6 is unused: no site gives it. The lowest number that applies is given; the sheet reader looks for 9 first.
+ * range, a wall velocity not 0, a pump's cell that the site has not, a window edge or a staff reading not finite, a staff reading below 0,
+ * above 50 m or of an unknown kind, 4 a cell breaks the step limit, 5 a new height, or one that an inlet makes, exceeds 50,000,000, 7 a
+ * new velocity is out of range, 8 the lent room is too short, 9 not a sheet of version 1. 6 is unused: no site gives it. The lowest number
+ * that applies is given; the sheet reader looks for 9 first.
  *
  * Step limit: dt*(we*dy + sn*dx) <= 1000*dx*dy in every cell, dry ones too, we being its west velocity if that points west plus
  * its east one if that points east, each without its sign, and sn the same for south and north: what leaves a cell in one step is
@@ -53,6 +54,7 @@
  *     water_read_sheet         1,000        1,000     1,000
  *     water_write_sheet        1,000        1,000     1,000
  *     water_depth_text         1,000        1,000     1,000
+ *     water_staff              1,000        1,000     1,000
  *
  * Small is a site whose state has at most 3,136 words, as with 32 columns and 32 rows. Without pumps a step by either engine takes
  * 398,000, on a small site 27,000. Where the state has at most 800 words, as with 16 columns and 16 rows, it takes 12,000, without pumps
@@ -66,7 +68,8 @@
 #include <stdint.h>
 
 /* 3: water_step, water_step_textbook and water_run take pumps, and a tally has added and taken. Compile anew what was compiled
- * with an older header: its calls pass no pumps, and its tally is shorter. */
+ * with an older header: its calls pass no pumps, and its tally is shorter. A call that is only added, as water_staff was, leaves the
+ * number as it is. */
 #define WATER_VERSION 3
 
 #ifdef __cplusplus
@@ -117,6 +120,16 @@ typedef struct {
 typedef struct {
     uint32_t number, size;
 } WaterWrote;
+
+/* What a staff reading is of. */
+enum { WATER_NOTHING = 0, WATER_METRES = 1, WATER_FEET = 2 };
+
+/* What a staff reading answers: read is 1 if there is a height and 0 if there is none; height is 0 to 50,000,000 um, and 0 if there is
+ * none. */
+typedef struct {
+    uint32_t number, read;
+    int32_t height;
+} WaterStaff;
 
 /* One step: reads ground, state and pumps and fills next, a list of the state's length.
  * Refused with 1 to 5 or 7: next is as lent. */
@@ -186,6 +199,15 @@ WaterWrote water_write_sheet(WaterCard card,
  * and the rest is as lent. 7 bytes are always enough. 0, and scratch as lent, if height is out of range or scratch is shorter than
  * the text. */
 size_t water_depth_text(int32_t height, uint8_t *scratch, size_t scratch_length);
+
+/* The height of a staff reading: so many metres or feet, as kind says, or no reading.
+ * Metres are multiplied by 1,000,000 and feet by 304,800. The product is rounded once, as doubles are (to the nearest, of two as near to
+ * the even one), and then goes to the nearest whole um, halves up. 1.5 m gives 1,500,000, 1 ft gives 304,800, 1/128 m (7,812.5 um) gives
+ * 7,813, and -0.0 gives 0. 0.0000005 m gives 1: that double is not exactly half a um, but its product rounds to exactly 0.5.
+ * Done: read is 1. WATER_NOTHING is done too, with read and height 0; its value is not looked at, and may be a NaN.
+ * Refused with 3: a value that is not finite or is below 0 (-0.0 is not); a product above 50,000,000, even if it would go down to that,
+ * as that of 50.0000004 m would, or one that overflows; a kind that is none of the three. Then read and height are 0. */
+WaterStaff water_staff(uint32_t kind, double value);
 
 #ifdef __cplusplus
 }

@@ -8,6 +8,7 @@
 //! ([`crate::Pump`]).
 
 use crate::raw::{self, Card, Chamber, Window};
+use crate::reading::Reading;
 use crate::refusal::Refusal;
 
 /// What a run answers.
@@ -269,4 +270,34 @@ pub fn depth_text(height: i32, scratch: &mut [u8]) -> Option<&str> {
     } else {
         Some(std::str::from_utf8(text).expect("a depth text is plain ASCII"))
     }
+}
+
+/// The height of a staff reading in micrometres, 0 to 50,000,000; none where nothing was read.
+///
+/// Metres are multiplied by 1,000,000 and feet by 304,800. The product is rounded once, as floats are, and then goes to the nearest whole
+/// micrometre, halves up. `-0.0` is 0.
+///
+/// Refused with [`Refusal::Value`]: a float that is not finite or is below 0, and a product above 50,000,000, even if it would go down to
+/// that.
+///
+/// ```
+/// use water::{calls, Reading, Refusal};
+/// assert_eq!(calls::staff(Reading::Metres(1.5)), Ok(Some(1_500_000)));
+/// assert_eq!(calls::staff(Reading::Feet(1.0)), Ok(Some(304_800)));
+/// assert_eq!(calls::staff(Reading::Nothing), Ok(None));
+///
+/// // 7,812.5 µm; and a float that is not exactly half a micrometre, whose product rounds to exactly 0.5
+/// assert_eq!(calls::staff(Reading::Metres(1.0 / 128.0)), Ok(Some(7_813)));
+/// assert_eq!(calls::staff(Reading::Metres(0.000_000_5)), Ok(Some(1)));
+///
+/// assert_eq!(calls::staff(Reading::Metres(-0.0)), Ok(Some(0)));
+/// assert_eq!(calls::staff(Reading::Metres(-0.001)), Err(Refusal::Value));
+/// assert_eq!(calls::staff(Reading::Metres(50.000_000_4)), Err(Refusal::Value));
+/// assert_eq!(calls::staff(Reading::Feet(f64::NAN)), Err(Refusal::Value));
+/// ```
+pub fn staff(reading: Reading) -> Result<Option<i32>, Refusal> {
+    let (kind, value) = reading.kind_and_value();
+    // Safety: nothing is lent.
+    let raw::Staff { number, read, height } = unsafe { raw::water_staff(kind, value) };
+    done(number, 0, (read == 1).then_some(height))
 }

@@ -4,7 +4,7 @@
 //! [`raw`] is what C sees. All state is whole numbers: micrometres, micrometres a second, milliseconds. Rows run south to north,
 //! and within a row west to east. Two engines make a step, to the same numbers: [`calls::step`] is the default, which a run repeats, and
 //! [`calls::step_textbook`] is for reading beside the paper (of Herbin, Latché, Nasseri and Therme). Steps and runs take up to 64 pumps and
-//! inlets ([`Pump`]).
+//! inlets ([`Pump`]). What was read off a gauge staff, in metres or in feet ([`Reading`]), becomes a height by [`calls::staff`].
 //!
 //! # Stack
 //!
@@ -21,6 +21,7 @@
 //! | [`calls::read_sheet`] | 1,000 | 1,000 | 1,000 |
 //! | [`calls::write_sheet`] | 1,000 | 1,000 | 1,000 |
 //! | [`calls::depth_text`] | 1,000 | 1,000 | 1,000 |
+//! | [`calls::staff`] | 1,000 | 1,000 | 1,000 |
 //!
 //! Small is a site whose state has at most 3,136 words, as with 32 columns and 32 rows. Without pumps a step by either engine takes
 //! 398,000, on a small site 27,000. Where the state has at most 800 words, as with 16 columns and 16 rows, it takes 12,000, without pumps
@@ -37,11 +38,13 @@ pub mod calls;
 mod card;
 mod pump;
 pub mod raw;
+mod reading;
 mod refusal;
 mod site;
 
 pub use calls::Tally;
 pub use pump::Pump;
 pub use raw::{Card, Chamber, Window};
+pub use reading::Reading;
 pub use refusal::Refusal;
 pub use site::Site;

@@ -92,6 +92,20 @@ pub struct Wrote {
     pub size: u32,
 }
 
+/// What a staff reading is of: nothing, metres or feet.
+pub const WATER_NOTHING: u32 = 0;
+pub const WATER_METRES: u32 = 1;
+pub const WATER_FEET: u32 = 2;
+
+/// What a staff reading answers: its number, 1 or 0 for a height or none, and the height in micrometres, 0 if there is none.
+#[repr(C)]
+#[derive(Clone, Copy, Debug, Default, PartialEq, Eq)]
+pub struct Staff {
+    pub number: u32,
+    pub read: u32,
+    pub height: i32,
+}
+
 /// A step's call by either engine: [`water_step`] or [`water_step_textbook`].
 pub type Step = unsafe extern "C" fn(Card, *const i32, usize, *const i32, usize, *const i32, usize, *mut i32, usize) -> u32;
 
@@ -182,4 +196,6 @@ extern "C" {
     ) -> Wrote;
 
     pub fn water_depth_text(height: i32, scratch: *mut u8, scratch_length: usize) -> usize;
+
+    pub fn water_staff(kind: u32, value: f64) -> Staff;
 }

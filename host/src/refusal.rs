@@ -10,9 +10,9 @@ pub enum Refusal {
     Card,
     /// 2: a lent list has the wrong length (that of pumps an odd one), or there are over 1,000 chambers
     Length,
-    /// 3: a value outside its range, a wall velocity not 0, a pump's cell that the site has not, or a window edge not finite. Ground is
-    /// -50,000,000 to 50,000,000 micrometres, a height and a search's depth 0 to 50,000,000, a velocity -20,000,000 to 20,000,000
-    /// micrometres a second, a pump's amount -1,000,000 to 1,000,000 micrometres.
+    /// 3: a value outside its range, a wall velocity not 0, a pump's cell that the site has not, or a window edge or a staff reading not
+    /// finite. Ground is -50,000,000 to 50,000,000 micrometres, a height and a search's depth 0 to 50,000,000, a velocity -20,000,000 to
+    /// 20,000,000 micrometres a second, a pump's amount -1,000,000 to 1,000,000 micrometres, a staff reading 0 to 50,000,000 micrometres.
     Value,
     /// 4: some cell breaks the step limit: the velocities that point out of it would take more than it holds in one step. A dry cell
     /// counts too, and a velocity that points into a cell does not count there. A shorter time step helps.
@@ -65,7 +65,8 @@ impl fmt::Display for Refusal {
             Refusal::Card => f.write_str("columns, rows, a side, dt or steps outside its range, or over 64 pumps (1)"),
             Refusal::Length => f.write_str("a list of the wrong length, or over 1,000 chambers (2)"),
             Refusal::Value => f.write_str(
-                "a value outside its range, a wall velocity not 0, a pump's cell that the site has not, or a window edge not finite (3)",
+                "a value outside its range, a wall velocity not 0, a pump's cell that the site has not, \
+                 or a window edge or a staff reading not finite (3)",
             ),
             Refusal::StepLimit => f.write_str("some cell breaks the step limit (4)"),
             Refusal::TooHigh => f.write_str("some new height, or one that an inlet makes, exceeds 50,000,000 (5)"),
