@@ -2,7 +2,7 @@
 //! reads and writes each field at its place is seen wherever a test compares records whose fields all differ.
 
 use std::mem::{align_of, size_of};
-use water::raw::{Card, Chamber, Found, Heard, Pump, Tally, Window, Wrote};
+use water::raw::{Card, Chamber, Found, Heard, Pump, Staff, Tally, Window, Wrote, WATER_FEET, WATER_METRES, WATER_NOTHING};
 
 macro_rules! offsets {
     ($record:ty: $($field:ident)*) => {{
@@ -19,6 +19,14 @@ fn the_header_has_the_packages_version() {
     let version = concat!("#define WATER_VERSION ", env!("CARGO_PKG_VERSION_MAJOR"));
     let defined: Vec<&str> = header.lines().filter(|line| line.contains("WATER_VERSION")).collect();
     assert_eq!(defined, [version]);
+}
+
+/// The header's kinds of a staff reading are the package's.
+#[test]
+fn the_header_has_the_packages_kinds() {
+    let header = include_str!("../../../include/water.h");
+    let kinds = format!("enum {{ WATER_NOTHING = {WATER_NOTHING}, WATER_METRES = {WATER_METRES}, WATER_FEET = {WATER_FEET} }};");
+    assert_eq!(header.lines().filter(|&line| line == kinds).count(), 1, "{kinds}");
 }
 
 #[test]
@@ -40,4 +48,6 @@ fn records_are_laid_out_as_in_the_header() {
     assert_eq!(offsets!(Heard: number card), [0, 4]);
     assert_eq!((size_of::<Wrote>(), align_of::<Wrote>()), (8, 4));
     assert_eq!(offsets!(Wrote: number size), [0, 4]);
+    assert_eq!((size_of::<Staff>(), align_of::<Staff>()), (12, 4));
+    assert_eq!(offsets!(Staff: number read height), [0, 4, 8]);
 }

@@ -7,7 +7,7 @@
 use crate::lent::Lent;
 use crate::model;
 use crate::rng::Rng;
-use water::raw::{self, Card, Chamber, Found, Heard, Tally, Window, Wrote};
+use water::raw::{self, Card, Chamber, Found, Heard, Staff, Tally, Window, Wrote};
 
 type Model = fn(Card, ground: &[i32], state: &[i32], pumps: &[i32], next: &mut [i32]) -> u32;
 
@@ -179,4 +179,11 @@ pub fn depth_text(rng: &mut Rng, height: i32, scratch: &mut [u8]) -> usize {
     assert_eq!(length, expected, "depth text of {height} in {} bytes", scratch.len());
     t.assert_holds(scratch);
     length
+}
+
+/// A staff reading is lent nothing.
+pub fn staff(kind: u32, value: f64) -> Staff {
+    let answer = unsafe { raw::water_staff(kind, value) };
+    assert_eq!(answer, model::staff(kind, value), "kind {kind}, {value:e}, bits {:#018x}", value.to_bits());
+    answer
 }

@@ -25,6 +25,7 @@ mod run;
 mod search;
 mod sheet;
 mod stack;
+mod staff;
 mod step;
 mod sums;
 mod text;

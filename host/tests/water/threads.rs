@@ -19,6 +19,7 @@ fn calls_at_once() {
                     sheets(rng, &site);
                     searches(rng, &site);
                     library::depth_text(rng, site.state.first().copied().unwrap_or(0), &mut [0; 7]);
+                    library::staff(rng.below(4) as u32, rng.scaled(1, 200_000) as f64 / 1_000.0);
                 }
             })
         })

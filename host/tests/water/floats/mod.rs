@@ -6,6 +6,7 @@
 mod dam_break;
 mod pumps;
 mod scheme;
+mod staff;
 mod steps;
 mod still;
 mod textbook;

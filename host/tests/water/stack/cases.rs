@@ -2,7 +2,7 @@
 
 use crate::wild::Wild;
 use water::raw::{Card, Chamber, Window};
-use water::{calls, Pump, Refusal, Site};
+use water::{calls, Pump, Reading, Refusal, Site};
 
 pub type Call = Box<dyn FnMut() -> Result<(), Refusal> + Send>;
 
@@ -138,4 +138,8 @@ pub fn write_into(site: Wild, room: usize) -> Call {
 pub fn text(height: i32) -> Call {
     let mut scratch = [0; 7];
     Box::new(move || calls::depth_text(height, &mut scratch).map(drop).ok_or(Refusal::Value))
+}
+
+pub fn staff(reading: Reading) -> Call {
+    Box::new(move || calls::staff(reading).map(drop))
 }

@@ -13,7 +13,7 @@ mod whole;
 use crate::wild::Wild;
 use cases::Call;
 use std::thread;
-use water::Refusal;
+use water::{Reading, Refusal};
 
 /// What a thread has beside: the least that Linux gives one, which holds what Rust does before and after the call.
 const THREAD: usize = 16_384;
@@ -247,10 +247,25 @@ fn depth_text_takes_what_is_named() {
     holds("text, below 0", named.refused, Err(Refusal::Value), || cases::text(-1));
 }
 
+#[test]
+fn staff_takes_what_is_named() {
+    let named = header("water_staff");
+    let holds = |case: &str, named, answer, reading| holds(&format!("staff, {case}"), named, answer, || cases::staff(reading));
+    holds("the greatest", named.any, Ok(()), Reading::Metres(50.0));
+    holds("the least", named.any, Ok(()), Reading::Feet(f64::from_bits(1)));
+    holds("metres", named.small, Ok(()), Reading::Metres(1.5));
+    holds("feet", named.small, Ok(()), Reading::Feet(1.0));
+    holds("no reading", named.small, Ok(()), Reading::Nothing);
+    holds("not finite", named.refused, Err(Refusal::Value), Reading::Metres(f64::NAN));
+    holds("below 0", named.refused, Err(Refusal::Value), Reading::Feet(-1.0));
+    holds("too much", named.refused, Err(Refusal::Value), Reading::Metres(50.000_000_4));
+    holds("an overflow", named.refused, Err(Refusal::Value), Reading::Feet(f64::MAX));
+}
+
 /// The page of the package says the same.
 #[test]
 fn both_pages_name_the_same_stack() {
-    for call in ["step", "step_textbook", "run", "search", "search_lists", "read_sheet", "write_sheet", "depth_text"] {
+    for call in ["step", "step_textbook", "run", "search", "search_lists", "read_sheet", "write_sheet", "depth_text", "staff"] {
         assert_eq!(named(PACKAGE, &format!("calls::{call}")), header(&format!("water_{call}")), "{call}");
     }
 }

@@ -3,7 +3,7 @@
 use super::cases::{self, Call};
 use super::STEPS;
 use std::thread;
-use water::Refusal;
+use water::{Reading, Refusal};
 
 /// What both pages promise, by the sentence in which they do.
 fn promised() -> usize {
@@ -42,4 +42,5 @@ fn all_other_calls() {
     answers("read", Ok(()), cases::read(cases::site(128)));
     answers("write", Ok(()), cases::write(cases::site(128)));
     answers("text", Ok(()), cases::text(50_000_000));
+    answers("staff", Ok(()), cases::staff(Reading::Feet(164.0)));
 }
