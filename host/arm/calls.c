@@ -44,3 +44,9 @@ WaterWrote water_write_sheet(WaterCard card, GROUND, STATE, LIST(uint8_t, bytes)
 size_t water_depth_text(int32_t height, LIST(uint8_t, scratch)) {
     return flat_depth_text(height, LENT(scratch));
 }
+
+WaterStaff water_staff(uint32_t kind, double value) {
+    WaterStaff staff;
+    flat_staff(kind, value, &staff);
+    return staff;
+}

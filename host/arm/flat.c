@@ -34,3 +34,7 @@ void flat_write_sheet(const WaterCard *card, GROUND, STATE, LIST(uint8_t, bytes)
 size_t flat_depth_text(int32_t height, LIST(uint8_t, scratch)) {
     return water_depth_text(height, LENT(scratch));
 }
+
+void flat_staff(uint32_t kind, double value, WaterStaff *staff) {
+    *staff = water_staff(kind, value);
+}

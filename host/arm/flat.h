@@ -1,4 +1,4 @@
-/* The library's calls with every record behind a pointer: words and pointers only, which every machine hands over alike. */
+/* The library's calls with every record behind a pointer: words, pointers and a float only, which every machine hands over alike. */
 #include "water.h"
 
 #define LIST(type, name) type *name, size_t name##_length
@@ -17,3 +17,4 @@ void flat_search_lists(const WaterCard *card, GROUND, STATE, LIST(const int64_t,
 void flat_read_sheet(LIST(const uint8_t, sheet), LIST(int32_t, ground), LIST(int32_t, state), WaterHeard *heard);
 void flat_write_sheet(const WaterCard *card, GROUND, STATE, LIST(uint8_t, bytes), WaterWrote *wrote);
 size_t flat_depth_text(int32_t height, LIST(uint8_t, scratch));
+void flat_staff(uint32_t kind, double value, WaterStaff *staff);

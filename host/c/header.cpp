@@ -16,5 +16,9 @@ int main() {
     int32_t run[5] = {7, 0, 0, 0, 0}, scratch[5] = {};
     const WaterTally tally = water_run(card, ground, 1, run, 5, words, 4, scratch, 5);
     const bool fourth = tally.steps == 1 && tally.reason == 0 && tally.top == 22 && tally.added == 20 && tally.taken == 5;
-    return first && second && third && fourth ? 0 : 1;
+    const WaterStaff metres = water_staff(WATER_METRES, 1.5), feet = water_staff(WATER_FEET, 1.0), none = water_staff(WATER_NOTHING, 1.5);
+    const bool fifth = metres.number == 0 && metres.read == 1 && metres.height == 1500000 && feet.height == 304800 && none.read == 0;
+    const WaterStaff below = water_staff(WATER_METRES, -1.5), unknown = water_staff(3, 1.5);
+    const bool sixth = below.number == 3 && below.read == 0 && below.height == 0 && unknown.number == 3;
+    return first && second && third && fourth && fifth && sixth ? 0 : 1;
 }

@@ -4,6 +4,7 @@
 #define _DEFAULT_SOURCE
 #include "water.h"
 
+#include <math.h>
 #include <stdio.h>
 #include <stdlib.h>
 #include <string.h>
@@ -47,6 +48,10 @@ PLACE(WaterHeard, card, 4);
 SIZE(WaterWrote, 8);
 PLACE(WaterWrote, number, 0);
 PLACE(WaterWrote, size, 4);
+SIZE(WaterStaff, 12);
+PLACE(WaterStaff, number, 0);
+PLACE(WaterStaff, read, 4);
+PLACE(WaterStaff, height, 8);
 
 /* ---- counting */
 
@@ -440,6 +445,71 @@ static void texts(void) {
     EXPECT(text_is(-1, ""));
 }
 
+/* ---- staff readings, document 02, [1] */
+
+static int staff_is(uint32_t kind, double value, uint32_t number, uint32_t read, int32_t height) {
+    WaterStaff staff = water_staff(kind, value);
+    return staff.number == number && staff.read == read && staff.height == height;
+}
+
+static int reads(uint32_t kind, double value, int32_t height) {
+    return staff_is(kind, value, 0, 1, height);
+}
+
+static int refuses(uint32_t kind, double value) {
+    return staff_is(kind, value, 3, 0, 0);
+}
+
+/* A double by its bits. */
+static double of_bits(uint64_t bits) {
+    double value;
+    memcpy(&value, &bits, sizeof value);
+    return value;
+}
+
+static void staff_readings(void) {
+    EXPECT(reads(WATER_METRES, 1.5, 1500000));
+    EXPECT(reads(WATER_FEET, 1, 304800));
+    EXPECT(reads(WATER_METRES, 0, 0) && reads(WATER_FEET, 0, 0));
+    EXPECT(reads(WATER_METRES, -0.0, 0) && reads(WATER_FEET, -0.0, 0));
+    /* exact halves go up */
+    EXPECT(reads(WATER_METRES, 1 / 128.0, 7813) && reads(WATER_METRES, 3 / 128.0, 23438));
+    EXPECT(reads(WATER_FEET, 1 / 64.0, 4763));
+    /* and products that round to a half; that of the double before each is just below it */
+    EXPECT(reads(WATER_METRES, 0.0000005, 1) && reads(WATER_METRES, 4.999999999999999e-07, 0));
+    EXPECT(reads(WATER_FEET, 1.6404199475065617e-06, 1) && reads(WATER_FEET, 1.6404199475065615e-06, 0));
+    EXPECT(reads(WATER_METRES, of_bits(1), 0) && reads(WATER_FEET, of_bits(1), 0));
+    /* the greatest, and the next one */
+    EXPECT(reads(WATER_METRES, 50, 50000000) && refuses(WATER_METRES, 50.00000000000001));
+    EXPECT(reads(WATER_FEET, 164.04199475065616, 50000000) && refuses(WATER_FEET, 164.0419947506562));
+}
+
+static void no_staff_reading(void) {
+    EXPECT(staff_is(WATER_NOTHING, 0, 0, 0, 0));
+    EXPECT(staff_is(WATER_NOTHING, 1.5, 0, 0, 0));
+    EXPECT(staff_is(WATER_NOTHING, -1, 0, 0, 0));
+    EXPECT(staff_is(WATER_NOTHING, NAN, 0, 0, 0) && staff_is(WATER_NOTHING, INFINITY, 0, 0, 0));
+}
+
+static void refused_staff_readings(void) {
+    static const uint64_t not_a_number[] = {0x7ff8000000000000, 0x7ff0000000000001, 0xfff8000000000000, 0xfff0000000000001, 0xffffffffffffffff};
+    static const uint32_t unknown[] = {3, 4, 5, 256, 257, 258, 0x10001, 0x80000000, 0x80000001, UINT32_MAX};
+    for (uint32_t kind = WATER_METRES; kind <= WATER_FEET; kind++) {
+        EXPECT(refuses(kind, INFINITY) && refuses(kind, -INFINITY));
+        for (size_t k = 0; k < sizeof not_a_number / sizeof *not_a_number; k++) {
+            EXPECT(refuses(kind, of_bits(not_a_number[k])));
+        }
+        EXPECT(refuses(kind, -1) && refuses(kind, -of_bits(1)));
+        EXPECT(refuses(kind, 200) && refuses(kind, 1e300) && refuses(kind, 1.7976931348623157e308));
+    }
+    /* 50,000,000.4 would go down */
+    EXPECT(refuses(WATER_METRES, 50.0000004));
+    EXPECT(refuses(WATER_FEET, 164.041996));
+    for (size_t k = 0; k < sizeof unknown / sizeof *unknown; k++) {
+        EXPECT(refuses(unknown[k], 1.5) && refuses(unknown[k], 0) && refuses(unknown[k], NAN));
+    }
+}
+
 /* The largest site, stepped, run, searched, written and read back. */
 static void largest(void) {
     enum { CELLS = 128 * 128, WORDS = 3 * CELLS + 256, BYTES = 19 + 4 * (CELLS + WORDS) };
@@ -539,6 +609,9 @@ int main(void) {
         largest();
     }
     no_pointers();
+    staff_readings();
+    no_staff_reading();
+    refused_staff_readings();
     printf("numbers.c: %d facts hold, %d do not\n", passed, failed);
     return failed != 0;
 }
