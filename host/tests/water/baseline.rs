@@ -4,7 +4,7 @@
 #[path = "../../src/bin/bench/plain/mod.rs"]
 mod plain;
 
-// the benchmark alone asks for chambers
+// the benchmark alone asks for chambers and pumps
 #[allow(dead_code)]
 #[path = "../../src/bin/bench/sites.rs"]
 mod sites;
@@ -12,10 +12,12 @@ mod sites;
 use crate::given::Given;
 use crate::lent::room;
 use crate::model;
+use crate::staff::UNITS;
 use crate::trials::{single, trials};
 use crate::wild::{self, Wild};
 use sites::Water;
-use water::raw::{Chamber, Window};
+use water::raw::{Chamber, Window, WATER_METRES};
+use water::{Reading, Refusal};
 
 #[test]
 fn steps_and_runs() {
@@ -105,4 +107,34 @@ fn searches_and_sheets() {
     searched.assert_often("plain searches", &[0, 1, 2, 3, 8], 60);
     written.assert_often("plain sheets written", &[0, 1, 2, 3, 8], 60);
     read.assert_often("plain sheets read", &[0, 1, 2, 3, 9], 400);
+}
+
+#[test]
+fn staff_readings() {
+    assert_eq!(plain::staff(Reading::Nothing), Ok(None));
+    let mut given = Given::default();
+    trials("plain staff", 10_000, |rng| {
+        let unit = &UNITS[rng.below(2) as usize];
+        let value = unit.any(rng);
+        let reading = if unit.kind == WATER_METRES { Reading::Metres(value) } else { Reading::Feet(value) };
+        let expected = model::staff(unit.kind, value);
+        given.count(expected.number);
+        let answer = if expected.number == 0 { Ok(Some(expected.height)) } else { Err(Refusal::Value) };
+        assert_eq!(plain::staff(reading), answer, "{reading:?}");
+    });
+    given.assert_often("plain staff", &[0, 3], 5);
+}
+
+/// Half of them metres and half feet, each all over the range, a few above it.
+#[test]
+fn measured_readings() {
+    let readings = sites::readings();
+    let (metres, feet): (Vec<Reading>, Vec<Reading>) = readings.iter().partition(|reading| matches!(reading, Reading::Metres(_)));
+    for readings in [metres, feet] {
+        let heights: Vec<i32> = readings.iter().filter_map(|&reading| plain::staff(reading).ok().flatten()).collect();
+        assert!(readings.len() == 500 && (450..490).contains(&heights.len()), "{} of {}", heights.len(), readings.len());
+        for metre in 0..50 {
+            assert!(heights.iter().any(|height| height / 1_000_000 == metre), "none is {metre} m and a part of one");
+        }
+    }
 }

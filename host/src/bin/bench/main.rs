@@ -12,7 +12,7 @@ mod sites;
 
 use clock::{compare, seen};
 use plain::Plain;
-use sites::{pumps, register, site, Measured, Water};
+use sites::{pumps, readings, register, site, Measured, Water};
 use std::time::Instant;
 use water::raw::{Card, Window};
 use water::{calls, Refusal};
@@ -26,8 +26,12 @@ fn number<T>(answer: &Result<T, Refusal>) -> u32 {
 
 /// One row: our time and each other one, in µs, with the ratio to it.
 fn row<const WAYS: usize>(work: &str, size: u32, water: &str, per: f64, medians: [f64; WAYS]) {
-    let times = medians.map(|median| median / per / 1e3);
-    print!("| {work} | {size}×{size} | {water} | {:.2} |", times[0]);
+    row_of(&format!("{work} | {size}×{size} | {water}"), medians.map(|median| median / per));
+}
+
+fn row_of<const WAYS: usize>(work: &str, medians: [f64; WAYS]) {
+    let times = medians.map(|median| median / 1e3);
+    print!("| {work} | {:.2} |", times[0]);
     for plain in &times[1..] {
         print!(" {plain:.2} | {:.2} |", times[0] / plain);
     }
@@ -200,6 +204,28 @@ fn bench_sheet(site: &Measured, water: &str) {
     row("read a sheet", card.columns, water, 1.0, medians);
 }
 
+/// Readings have no site and no water.
+fn bench_staff() {
+    let readings = readings();
+    let (mut heights, mut plain_heights) = (vec![Ok(None); readings.len()], vec![Ok(None); readings.len()]);
+    let medians = compare([
+        &mut || {
+            for (height, reading) in heights.iter_mut().zip(&readings) {
+                *height = calls::staff(*reading);
+            }
+            seen(&mut heights);
+        },
+        &mut || {
+            for (height, reading) in plain_heights.iter_mut().zip(&readings) {
+                *height = plain::staff(*reading);
+            }
+            seen(&mut plain_heights);
+        },
+    ]);
+    assert!(heights == plain_heights && heights.iter().any(Result::is_err), "both read alike");
+    row_of("1,000 staff readings | - | -", medians);
+}
+
 /// What 64 pumps cost: our time with them and without, then plain Rust's, in µs, with how many per cent more the pumps take; last, the ratio
 /// with pumps. `per` is how many steps each time is of.
 fn row_of_pumps(work: &str, size: u32, water: &str, per: f64, medians: [f64; 4]) {
@@ -345,6 +371,7 @@ fn main() {
         bench_search(&site, "moving");
         bench_sheet(&site, "moving");
     }
+    bench_staff();
     println!();
     println!("| work | site | water | ours, µs | plain Rust, µs | ratio | our first engine, µs | ratio |");
     println!("|---|---|---|---|---|---|---|---|");

@@ -1,6 +1,7 @@
-//! The sites that are measured.
+//! The sites that are measured, and the staff readings.
 
 use water::raw::{Card, Chamber};
+use water::Reading;
 
 pub struct Measured {
     pub card: Card,
@@ -102,4 +103,10 @@ pub fn register(card: &Card) -> Vec<Chamber> {
     (0..1_000u64)
         .map(|k| Chamber { x: (k * 2_654_435_761 % (width + 1)) as i64, y: (k * 40_503 * 65_537 % (height + 1)) as i64 })
         .collect()
+}
+
+/// A thousand staff readings in no order, by turns metres and feet, up to 53 m: about one in 18 is above 50 m, and refused.
+pub fn readings() -> Vec<Reading> {
+    let metres = |k: u64| (k * 2_654_435_761 % 53_000_001) as f64 / 1_000_000.0;
+    (0..1_000).map(|k| if k % 2 == 0 { Reading::Metres(metres(k)) } else { Reading::Feet(metres(k) / 0.304_8) }).collect()
 }

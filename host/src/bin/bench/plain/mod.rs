@@ -6,8 +6,10 @@ mod pumps;
 mod search;
 mod sheet;
 mod site;
+mod staff;
 mod step;
 
 pub use search::{search, search_lists};
 pub use sheet::{read_sheet, write_sheet};
+pub use staff::staff;
 pub use step::Plain;
