@@ -92,9 +92,11 @@ pub struct Wrote {
     pub size: u32,
 }
 
-/// What a staff reading is of: nothing, metres or feet.
+/// The kind of a staff reading where nothing was read.
 pub const WATER_NOTHING: u32 = 0;
+/// The kind of one in metres.
 pub const WATER_METRES: u32 = 1;
+/// The kind of one in feet.
 pub const WATER_FEET: u32 = 2;
 
 /// What a staff reading answers: its number, 1 or 0 for a height or none, and the height in micrometres, 0 if there is none.

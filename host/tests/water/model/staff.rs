@@ -1,5 +1,5 @@
-//! "Staff readings", document 02's [1]. No float is multiplied, compared or rounded here: a value is taken apart into whole numbers, and so is
-//! its product.
+//! "Staff readings", document 02's [1]. No float is multiplied, compared or rounded here: a value is taken apart into whole numbers, and its
+//! product is made of them.
 
 use super::site::HEIGHTS;
 use water::raw::Staff;
