@@ -41,3 +41,5 @@ pub mod RoundTrips
 pub mod Edges
 pub mod Searches
 pub mod Texts
+pub mod StaffOrder
+pub mod Staffs

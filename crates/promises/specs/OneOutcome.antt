@@ -3,6 +3,7 @@ use Prim.Native.Nat.{ℕ}
 use mathlib.Core.Path.{_≡_}
 use mathlib.Core.List.{List}
 use lib.IntN.{ℤ}
+use lib.Ieee.{Float}
 use Rattle.rules.specs.declared.Card.{Card}
 use Rattle.rules.specs.declared.Tally.{Tally}
 use Rattle.rules.specs.declared.Window.{Window}
@@ -10,8 +11,10 @@ use Rattle.rules.specs.declared.Chamber.{Chamber}
 use Rattle.rules.specs.declared.Found.{Found}
 use Rattle.rules.specs.declared.Heard.{Heard}
 use Rattle.rules.specs.declared.Wrote.{Wrote}
+use Rattle.rules.specs.declared.Reading.{Reading}
+use Rattle.rules.specs.declared.Staff.{Staff}
 use Rattle.rules.specs.Step.{Rule}
-use Rattle.rules.specs.Contracts.{StepContractBy, RunContract, SearchContract, RowSearchContract, ReadContract, WriteContract, TextContract}
+use Rattle.rules.specs.Contracts.{StepContractBy, RunContract, SearchContract, RowSearchContract, ReadContract, WriteContract, TextContract, StaffContract, KindContract}
 
 -- ---- step, by either engine
 
@@ -50,3 +53,11 @@ one-writing p q = (cc, cc)
 
 pub one-text : {h : ℤ} {x : List ℕ} {n n′ : ℕ} {y y′ : List ℕ} → TextContract h x n y → TextContract h x n′ y′ → (n ≡ n′) × (y ≡ y′)
 one-text p q = (cc, cc)
+
+-- ---- staff reading, as an enum and by its kind
+
+pub one-staff : {r : Reading} {a a′ : Staff} → StaffContract r a → StaffContract r a′ → a ≡ a′
+one-staff p q = cc
+
+pub one-kind : {k : ℕ} {v : Float} {a a′ : Staff} → KindContract k v a → KindContract k v a′ → a ≡ a′
+one-kind p q = cc

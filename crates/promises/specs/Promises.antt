@@ -23,7 +23,7 @@ use Rattle.promises.specs.NeverInTheMiddle.{keeps, Ends, ends}
 use Rattle.promises.specs.StepsWanted.{wanting}
 use Rattle.promises.specs.SiteSlices.{runsJoined, site-in-slices}
 -- of each public call: any two outcomes that its contract allows are equal, refused calls too
-pub use Rattle.promises.specs.OneOutcome.{one-step, one-run, one-search, one-row-search, one-reading, one-writing, one-text}
+pub use Rattle.promises.specs.OneOutcome.{one-step, one-run, one-search, one-row-search, one-reading, one-writing, one-text, one-staff, one-kind}
 -- and a refused call leaves every list as it was lent
 pub use Rattle.promises.specs.Refused.{step-refused, run-refused, scratch-zero, search-refused, no-count, read-refused, write-refused}
 -- the depth text's part is empty, and its scratch as lent, exactly if the height is out of range or the scratch is shorter than the text
@@ -60,6 +60,9 @@ pub use Rattle.promises.specs.BothEngines.{leaves-no-rest, one-rule, ban
 pub use Rattle.promises.specs.WaterKept.{pumped-sum, run-balances, step-call-balances, run-call-balances}
 -- and with an empty list the pumped step, the checks and the run are those without pumps, for every input: so [2]'s still water and [8]'s sum hold for it
 pub use Rattle.promises.specs.NoPumps.{no-pumps-step, no-pumps-check, no-pumps-check-with, no-pumps-run}
+-- of document 02's [1], staff readings: a height differs from its product by at most half a micrometre, is never below it by that, and is one that every other call
+-- takes; a greater value of the same unit never gives a smaller height, and is not read where a smaller one is refused for its product; a refused reading has none
+pub use Rattle.promises.specs.Staffs.{metres-near, feet-near, metres-in-order, feet-in-order, staff-refused, kind-refused}
 
 -- ---- Demand 3
 
