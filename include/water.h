@@ -206,7 +206,9 @@ size_t water_depth_text(int32_t height, uint8_t *scratch, size_t scratch_length)
  * 7,813, and -0.0 gives 0. 0.0000005 m gives 1: that double is not exactly half a um, but its product rounds to exactly 0.5.
  * Done: read is 1. WATER_NOTHING is done too, with read and height 0; its value is not looked at, and may be a NaN.
  * Refused with 3: a value that is not finite or is below 0 (-0.0 is not); a product above 50,000,000, even if it would go down to that,
- * as that of 50.0000004 m would, or one that overflows; a kind that is none of the three. Then read and height are 0. */
+ * as that of 50.0000004 m would, or one that overflows; a kind that is none of the three. Then read and height are 0.
+ * The one multiplication is the processor's, in the floating-point environment that C starts a program with. A thread that has set another
+ * rounding mode (fesetround), or that takes doubles near 0 for 0, may get another product; no other call multiplies or rounds a double. */
 WaterStaff water_staff(uint32_t kind, double value);
 
 #ifdef __cplusplus
