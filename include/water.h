@@ -5,6 +5,10 @@
  * pointer reaches as many elements as the length behind it says (a length of 0 allows any pointer, NULL too), and that a list that a
  * call fills overlaps no other list of the same call. No call keeps state, allocates or fails in another way than by its number.
  *
+ * Doubles are the processor's own. The thread rounds to the nearest and keeps doubles near 0, as C starts a program; it has not called
+ * fesetround, nor has it set flush-to-zero or denormals-are-zero, which linking with -ffast-math does on x86-64. Otherwise water_staff may
+ * answer another height, or read a value just below 0, and a search may take a window edge next to 0 for 0. No other call uses doubles.
+ *
  * Numbers: 0 done, 1 card out of range (or over 64 pumps), 2 a list has the wrong length (or over 1,000 chambers), 3 a value out of
  * range, a wall velocity not 0, a pump's cell that the site has not, a window edge or a staff reading not finite, a staff reading below 0,
  * above 50 m or of an unknown kind, 4 a cell breaks the step limit, 5 a new height, or one that an inlet makes, exceeds 50,000,000, 7 a
@@ -206,9 +210,7 @@ size_t water_depth_text(int32_t height, uint8_t *scratch, size_t scratch_length)
  * 7,813, and -0.0 gives 0. 0.0000005 m gives 1: that double is not exactly half a um, but its product rounds to exactly 0.5.
  * Done: read is 1. WATER_NOTHING is done too, with read and height 0; its value is not looked at, and may be a NaN.
  * Refused with 3: a value that is not finite or is below 0 (-0.0 is not); a product above 50,000,000, even if it would go down to that,
- * as that of 50.0000004 m would, or one that overflows; a kind that is none of the three. Then read and height are 0.
- * The one multiplication is the processor's, in the floating-point environment that C starts a program with. A thread that has set another
- * rounding mode (fesetround), or that takes doubles near 0 for 0, may get another product; no other call multiplies or rounds a double. */
+ * as that of 50.0000004 m would, or one that overflows; a kind that is none of the three. Then read and height are 0. */
 WaterStaff water_staff(uint32_t kind, double value);
 
 #ifdef __cplusplus

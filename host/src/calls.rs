@@ -280,8 +280,6 @@ pub fn depth_text(height: i32, scratch: &mut [u8]) -> Option<&str> {
 /// Refused with [`Refusal::Value`]: a float that is not finite or is below 0, and a product above 50,000,000, even if it would go down to
 /// that.
 ///
-/// The multiplication is the processor's, in the floating-point environment that Rust takes for granted: to the nearest, floats near 0 kept.
-///
 /// ```
 /// use water::{calls, Reading, Refusal};
 /// assert_eq!(calls::staff(Reading::Metres(1.5)), Ok(Some(1_500_000)));

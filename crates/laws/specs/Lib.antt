@@ -59,4 +59,5 @@ pub mod SignTests
 pub mod Swapped
 pub mod Floats
 pub mod Rounded
+pub mod NotBelow
 pub mod Nearest

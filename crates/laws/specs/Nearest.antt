@@ -1,14 +1,15 @@
--- Of a staff reading's product (document 02, [1]), by any fraction that it equals: whether it fits, and which whole number is nearest to it, halves up.
+-- Of a staff reading's product (document 02, [1]), by any fraction that it equals and whatever its sign: whether it fits, and which whole number is nearest to it,
+-- halves up.
 use Prim.Native.Nat.{ℕ, _+_, _*_, _/_, _%_, _≤_, _<_}
-use mathlib.Core.Path.{_≡_, sym, ap, _∙_}
-use mathlib.Core.Bool.{Bool}
-use native.Mathlib.Nat.{le-trans, le-of-eq, mul-assoc, mul-comm, mul-right-comm, mul-left-comm, add-comm, zero-add, add-mul, mul-le-mul-right, le-of-mul-le-mul-right, mod-lt, div-add-mod', div-eq-of-lt, div-eq-of-lt-le, add-mul-div-right}
+use mathlib.Core.Path.{_≡_, refl, sym, ap, _∙_}
+use mathlib.Core.Bool.{Bool, false}
+use native.Mathlib.Nat.{le-trans, le-of-eq, le-antisymm, le-of-suc-le-suc, one-mul, mul-assoc, mul-comm, mul-right-comm, mul-left-comm, add-comm, zero-add, add-mul, mul-le-mul-right, le-of-mul-le-mul-right, mod-lt, div-add-mod', div-eq-of-lt, div-eq-of-lt-le, add-mul-div-right, div-mul-le-self, lt-div-mul-add, div-lt-iff-lt-mul}
 use native.Mathlib.Omega.{arith}
 use lib.Dec.{leb, leb→le, le→leb}
 use lib.Ieee.{Float, nan, inf, fin, up, down}
 use lib.Ieee.Exact.{HasValue}
 use lib.Ieee.Fits.{down-pos}
-use lib.Ieee.Nearest.{div-mono, div-same}
+use lib.Ieee.Nearest.{div-mono}
 use Rattle.rules.specs.Staff.{productFits, nearestWhole}
 use Rattle.laws.specs.Tests.{both-ways}
 
@@ -35,13 +36,8 @@ half-up-mono a c b d C D h =
     greater : (x y v w : ℕ) → x ≤ y → v ≡ w → 4 * x + 2 * v ≤ 4 * y + 2 * w
     greater x y v w l e = omega arith
 
-pub half-up-same : (a c b d : ℕ) → 0 < c → 0 < d → a * d ≡ b * c → halfUp a c ≡ halfUp b d
-half-up-same a c b d C D h =
-    div-same (2 * a + c) (2 * c) (2 * b + d) (2 * d) (twice-pos c C) (twice-pos d D)
-    (crossed a c d ∙ equal (a * d) (b * c) (c * d) (d * c) h (mul-comm c d) ∙ sym (crossed b d c))
-  where
-    equal : (x y v w : ℕ) → x ≡ y → v ≡ w → 4 * x + 2 * v ≡ 4 * y + 2 * w
-    equal x y v w p q = omega arith
+half-up-same : (a c b d : ℕ) → 0 < c → 0 < d → a * d ≡ b * c → halfUp a c ≡ halfUp b d
+half-up-same a c b d C D e = le-antisymm (half-up-mono a c b d C D (le-of-eq e)) (half-up-mono b d a c D C (le-of-eq (sym e)))
 
 -- less than a half
 pub half-up-none : (a c : ℕ) → 2 * a < c → halfUp a c ≡ 0
@@ -67,6 +63,25 @@ module _ (a c : ℕ) (C : 0 < c) where
       one : (r : ℕ) → r < c → c ≤ 2 * r → halfUp r c ≡ 1
       one r l u = div-eq-of-lt-le (2 * c) (omega (arith, u)) (omega (arith, l))
 
+-- it lies above a / c less a half, at most a half above, and not beyond a whole number that a / c is at most
+module _ (a c : ℕ) (C : 0 < c) where
+  doubled : 2 * halfUp a c * c ≡ halfUp a c * (2 * c)
+  doubled = ap (λ (k : ℕ). k * c) (mul-comm 2 (halfUp a c)) ∙ mul-assoc (halfUp a c) 2 c
+
+  pub half-up-above : 2 * a < (2 * halfUp a c + 1) * c
+  half-up-above =
+      less (2 * a) (halfUp a c * (2 * c)) ((2 * halfUp a c + 1) * c) (lt-div-mul-add (twice-pos c C))
+      (add-mul (2 * halfUp a c) 1 c ∙ ap (λ (k : ℕ). k + 1 * c) doubled ∙ ap (λ (k : ℕ). halfUp a c * (2 * c) + k) (one-mul c))
+    where
+      less : (x y z : ℕ) → x + c < y + 2 * c → z ≡ y + c → x < z
+      less x y z l e = omega arith
+
+  pub half-up-below : 2 * halfUp a c * c ≤ 2 * a + c
+  half-up-below = le-trans (le-of-eq doubled) (div-mul-le-self (2 * a + c) (2 * c))
+
+  pub half-up-within : a ≤ 50000000 * c → halfUp a c ≤ 50000000
+  half-up-within l = le-of-suc-le-suc (div-lt-iff-lt-mul (twice-pos c C) .1 (omega (arith, l, C)))
+
 -- ---- The product, by a fraction that it equals
 
 module _ (s : Bool) (a c : ℕ) (C : 0 < c) where
@@ -91,3 +106,29 @@ module _ (s : Bool) (a c : ℕ) (C : 0 < c) where
   whole-as nan v = absurd v
   whole-as (inf t) v = absurd v
   whole-as (fin t m e) v = half-up-same (m * up e) (down e) a c (down-pos e) C (v .1)
+
+-- ---- The sign of a product does not count
+
+abbrev pub magnitude : Float → Float
+magnitude nan = nan
+magnitude (inf s) = inf false
+magnitude (fin s m e) = fin false m e
+
+fits-so : (x : Float) → productFits (magnitude x) ≡ productFits x
+unfolding productFits
+fits-so nan = refl
+fits-so (inf s) = refl
+fits-so (fin s m e) = refl
+
+whole-so : (x : Float) → nearestWhole (magnitude x) ≡ nearestWhole x
+unfolding nearestWhole
+whole-so nan = refl
+whole-so (inf s) = refl
+whole-so (fin s m e) = refl
+
+module _ (x y : Float) (e : magnitude x ≡ magnitude y) where
+  pub fits-alike : productFits x ≡ productFits y
+  fits-alike = sym (fits-so x) ∙ ap productFits e ∙ fits-so y
+
+  pub whole-alike : nearestWhole x ≡ nearestWhole y
+  whole-alike = sym (whole-so x) ∙ ap nearestWhole e ∙ whole-so y

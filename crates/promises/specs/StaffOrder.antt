@@ -1,11 +1,11 @@
 -- Two values of one unit, the second at or above the first: so are their products, so are the nearest whole numbers, and if the second's product fits the first's does.
-use Prim.Native.Nat.{ℕ, zero, suc, _+_, _*_, _≤_, _<_, zero-le}
-use mathlib.Core.Path.{_≡_, refl, sym, ap, _∙_, subst}
+use Prim.Native.Nat.{ℕ, _*_, _≤_, zero-le}
+use mathlib.Core.Path.{_≡_, refl, sym, ap, _∙_}
 use mathlib.Core.Bool.{Bool, true, false, not, _&&_, _||_}
-use native.Mathlib.Nat.{le-trans, le-of-eq, le-of-lt, mul-pos, zero-mul, mul-assoc, mul-right-comm, mul-mul-mul-comm, mul-le-mul-right, le-of-mul-le-mul-right}
-use lib.Dec.{T, leb, ltb, eqb, leb→le, ltb→lt, eqb→eq}
+use native.Mathlib.Nat.{le-trans, le-of-eq, le-of-lt, mul-pos, zero-mul, mul-right-comm, mul-mul-mul-comm, mul-le-mul-right, le-of-mul-le-mul-right}
+use lib.Dec.{T, ltb, eqb, leb→le, ltb→lt, eqb→eq}
 use lib.IntN.{ℤ}
-use lib.Ieee.{Float, nan, inf, fin, Format, binary64, up, down, unlike, round, mul, le, lt, eq}
+use lib.Ieee.{Float, nan, inf, fin, binary64, up, down, unlike, round, mul, le, lt, eq}
 use lib.Ieee.Fits.{down-pos}
 use lib.Ieee.Order.{round-mono}
 use lib.Ieee.Positive.{positive}
@@ -13,17 +13,12 @@ use borrow.Author.Tests.{le-leb, eqb-true}
 use Rattle.rules.specs.Staff.{valueFits, productFits, nearestWhole}
 use Rattle.laws.specs.Tests.{to-T, and-left, and-right}
 use Rattle.laws.specs.Rounded.{of-both, rounded}
-use Rattle.laws.specs.Nearest.{half-up-mono}
+use Rattle.laws.specs.Nearest.{half-up-mono, magnitude, fits-alike, whole-alike}
 
--- ---- The sign of a product does not count
+-- ---- What a sign does not change
 
-fits-unsigned : (s : Bool) (a c : ℕ) → productFits (round binary64 s a c) ≡ productFits (round binary64 false a c)
-unfolding productFits
-fits-unsigned s = of-both (λ x y. productFits x ≡ productFits y) s false refl (λ m e. refl) binary64
-
-whole-unsigned : (s : Bool) (a c : ℕ) → nearestWhole (round binary64 s a c) ≡ nearestWhole (round binary64 false a c)
-unfolding nearestWhole
-whole-unsigned s = of-both (λ x y. nearestWhole x ≡ nearestWhole y) s false refl (λ m e. refl) binary64
+by-magnitude : (s : Bool) (a c : ℕ) → magnitude (round binary64 s a c) ≡ magnitude (round binary64 false a c)
+by-magnitude s = of-both (λ x y. magnitude x ≡ magnitude y) s false refl (λ m e. refl) binary64
 
 -- ---- Two floats without a sign
 
@@ -98,8 +93,10 @@ products-in-order (fin false i j) P (fin s m e) (fin t n d) l f g h =
     (rounded (λ z. T (unsigned z)) binary64 false a c tt (λ _ _. tt))
     (rounded (λ z. T (unsigned z)) binary64 false b x tt (λ _ _. tt))
     (round-mono binary64 a c b x (mul-pos (down-pos e) (down-pos j)) (mul-pos (down-pos d) (down-pos j)) cross)
-    (sym (fits-unsigned (unlike t false) b x) ∙ h) in
+    (sym (fits-alike (round binary64 (unlike t false) b x) (round binary64 false b x) (by-magnitude (unlike t false) b x)) ∙ h) in
     record {
-      fits = fits-unsigned (unlike s false) a c ∙ below .fits;
-      whole = le-trans (le-of-eq (whole-unsigned (unlike s false) a c)) (le-trans (below .whole) (le-of-eq (sym (whole-unsigned (unlike t false) b x))));
+      fits = fits-alike (round binary64 (unlike s false) a c) (round binary64 false a c) (by-magnitude (unlike s false) a c) ∙ below .fits;
+      whole =
+          le-trans (le-of-eq (whole-alike (round binary64 (unlike s false) a c) (round binary64 false a c) (by-magnitude (unlike s false) a c)))
+          (le-trans (below .whole) (le-of-eq (sym (whole-alike (round binary64 (unlike t false) b x) (round binary64 false b x) (by-magnitude (unlike t false) b x)))));
     }

@@ -21,6 +21,7 @@ valueFits nan = false
 valueFits (inf s) = false
 valueFits (fin s m e) = not s || eqb m 0
 
+-- Of the product of a value that fits the sign is not asked: it is +, or - with m = 0.
 -- refusal 3: a product above 50,000,000; one that overflows is an infinity, and above
 unfoldable pub productFits : Float → Bool
 productFits nan = false
@@ -41,5 +42,6 @@ withHeight h = record { number = 0; read = 1; height = h }
 unfoldable pub withoutHeight : (number : ℕ) → Staff
 withoutHeight k = record { number = k; read = 0; height = pos 0 }
 
+-- a value and its product: read, or refused with 3
 unfoldable pub measured : (value product : Float) → Staff
 measured v p = cond (valueFits v && productFits p) (withHeight (pos (nearestWhole p))) (withoutHeight 3)

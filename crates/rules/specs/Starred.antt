@@ -87,11 +87,11 @@ abbrev pub PumpedRefuses : (state pumps : List ℤ) (number : ℕ) → Type 0
 PumpedRefuses s ps k = Leaves 2 (flat 2) s ps k s
 
 -- a value of a staff reading, its float given by its bits, gives this height; or is refused
-abbrev pub Gives : (unit : Float → Reading) (bits height : ℕ) → Type 0
-Gives unit b h = staffAnswer (unit (ofBits binary64 b)) ≡ withHeight (pos h)
+abbrev pub StaffGives : (unit : Float → Reading) (bits height : ℕ) → Type 0
+StaffGives unit b h = staffAnswer (unit (ofBits binary64 b)) ≡ withHeight (pos h)
 
-abbrev pub Gives3 : (unit : Float → Reading) (bits : ℕ) → Type 0
-Gives3 unit b = staffAnswer (unit (ofBits binary64 b)) ≡ withoutHeight 3
+abbrev pub StaffRefuses : (unit : Float → Reading) (bits : ℕ) → Type 0
+StaffRefuses unit b = staffAnswer (unit (ofBits binary64 b)) ≡ withoutHeight 3
 
 pub record Starred : Type 0 where
   -- two heights, still: heights stay, the middle velocity is 980,665; and the second step
@@ -148,35 +148,35 @@ pub record Starred : Type 0 where
   -- [10], a run: the first step finds 300 to take and the second nothing; the third is refused by its inlet, and what its pump would take does not count
   pub totals : pumpedRun (slowRow 9) (flat 2) (two (pos 300) (pos 48000100) (pos 0)) (pos 0 ∷ negℤ (pos 1000) ∷ pos 1 ∷ pos 900000 ∷ []) ≡ record { tally = record { steps = 2; reason = 5; top = pos 49776219; added = 1800000; taken = 300 }; state = two (pos 23881) (pos 49776219) (negℤ (pos 967219)) }
   -- [1], 1.5 m, 1 ft, -0.0 m and -0.0 ft, no reading
-  pub metres : Gives Metres 0x3ff8_0000_0000_0000 1500000
-  pub foot : Gives Feet 0x3ff0_0000_0000_0000 304800
-  pub minus-zero : Gives Metres 0x8000_0000_0000_0000 0
-  pub minus-zero-feet : Gives Feet 0x8000_0000_0000_0000 0
+  pub metres : StaffGives Metres 0x3ff8_0000_0000_0000 1500000
+  pub foot : StaffGives Feet 0x3ff0_0000_0000_0000 304800
+  pub minus-zero : StaffGives Metres 0x8000_0000_0000_0000 0
+  pub minus-zero-feet : StaffGives Feet 0x8000_0000_0000_0000 0
   pub no-reading : staffAnswer Nothing ≡ withoutHeight 0
-  -- [1], 50 m, and the next float above it, whose product 50,000,000.00000001 would go to 50,000,000; so would 50.0000004 m; 164.04199475065616 ft are 50,000,000, and the next float above
-  pub fifty-metres : Gives Metres 0x4049_0000_0000_0000 50000000
-  pub above-fifty-metres : Gives3 Metres 0x4049_0000_0000_0001
-  pub into-range-if-rounded : Gives3 Metres 0x4049_0000_035a_fe53
-  pub fifty-metres-in-feet : Gives Feet 0x4064_8158_0560_1580 50000000
-  pub above-fifty-metres-in-feet : Gives3 Feet 0x4064_8158_0560_1581
-  -- [1], halves go up: 1/128 m is 7,812.5, 1/64 ft is 4,762.5, 49.9999995 m is 49,999,999.5
-  pub half-up : Gives Metres 0x3f80_0000_0000_0000 7813
-  pub half-up-in-feet : Gives Feet 0x3f90_0000_0000_0000 4763
-  pub half-up-at-the-top : Gives Metres 0x4048_ffff_fbce_4218 50000000
+  -- [1], 50 m, and the next float above it, whose product 50,000,000.00000001 would go to 50,000,000; so would 50.0000004 m; the product of 164.04199475065616 ft rounds to 50,000,000, and that of the next float is above
+  pub fifty-metres : StaffGives Metres 0x4049_0000_0000_0000 50000000
+  pub above-fifty-metres : StaffRefuses Metres 0x4049_0000_0000_0001
+  pub into-range-if-rounded : StaffRefuses Metres 0x4049_0000_035a_fe53
+  pub fifty-metres-in-feet : StaffGives Feet 0x4064_8158_0560_1580 50000000
+  pub above-fifty-metres-in-feet : StaffRefuses Feet 0x4064_8158_0560_1581
+  -- [1], halves go up: 1/128 m is 7,812.5, 1/64 ft is 4,762.5, and the product of 49.9999995 m rounds to 49,999,999.5
+  pub half-up : StaffGives Metres 0x3f80_0000_0000_0000 7813
+  pub half-up-in-feet : StaffGives Feet 0x3f90_0000_0000_0000 4763
+  pub half-up-at-the-top : StaffGives Metres 0x4048_ffff_fbce_4218 50000000
   -- [1], the float of 0.0000005 m is a little less, but its product is rounded once as floats do, to 0.5: it gives 1; the next float below gives 0
-  pub half-a-micrometre : Gives Metres 0x3ea0_c6f7_a0b5_ed8d 1
-  pub less-than-half : Gives Metres 0x3ea0_c6f7_a0b5_ed8c 0
+  pub half-a-micrometre : StaffGives Metres 0x3ea0_c6f7_a0b5_ed8d 1
+  pub less-than-half : StaffGives Metres 0x3ea0_c6f7_a0b5_ed8c 0
   -- [1], a product of 0.49999999999999994 gives 0, though with 0.5 added as a float it is 1
-  pub no-half-added : Gives Feet 0x3ebb_858c_ce85_2599 0
-  -- [1], the smallest float above 0, and below it; the greatest, whose product overflows; both infinities; a NaN, by the bits of three
-  pub smallest : Gives Metres 1 0
-  pub smallest-below : Gives3 Metres 0x8000_0000_0000_0001
-  pub overflows : Gives3 Feet 0x7fef_ffff_ffff_ffff
-  pub infinity : Gives3 Metres 0x7ff0_0000_0000_0000
-  pub infinity-below : Gives3 Feet 0xfff0_0000_0000_0000
-  pub quiet-nan : Gives3 Metres 0x7ff8_0000_0000_0000
-  pub signalling-nan : Gives3 Feet 0x7ff0_0000_0000_0001
-  pub negative-nan : Gives3 Metres 0xffff_ffff_ffff_ffff
+  pub no-half-added : StaffGives Feet 0x3ebb_858c_ce85_2599 0
+  -- [1], the smallest float above 0, and the greatest below it; the greatest of all, whose product overflows; both infinities; a NaN, by the bits of three
+  pub smallest : StaffGives Metres 1 0
+  pub smallest-below : StaffRefuses Metres 0x8000_0000_0000_0001
+  pub overflows : StaffRefuses Feet 0x7fef_ffff_ffff_ffff
+  pub infinity : StaffRefuses Metres 0x7ff0_0000_0000_0000
+  pub infinity-below : StaffRefuses Feet 0xfff0_0000_0000_0000
+  pub quiet-nan : StaffRefuses Metres 0x7ff8_0000_0000_0000
+  pub signalling-nan : StaffRefuses Feet 0x7ff0_0000_0000_0001
+  pub negative-nan : StaffRefuses Metres 0xffff_ffff_ffff_ffff
   -- [1], by kinds: 0 is no reading, whatever the value, here a NaN; 1 m, 1 ft; there is no kind 3
   pub kind-0 : kindAnswer 0 (ofBits binary64 0x7ff8_0000_0000_0000) ≡ staffAnswer Nothing
   pub kind-1 : kindAnswer 1 (ofBits binary64 0x3ff0_0000_0000_0000) ≡ withHeight (pos 1000000)

@@ -102,7 +102,7 @@ pub struct Wrote {
     pub size: u32,
 }
 
-// What an inspector typed off a gauge staff.
+// What an inspector read off a gauge staff and typed.
 pub enum Reading {
     Metres(f64),
     Feet(f64),

@@ -1,13 +1,13 @@
 -- What `nearest` answers for a product p, by the bits of a float x that stands for it: p itself, or p with 0.0 added, which is no reason to refuse.
 use Prim.Native.Nat.{ℕ, zero, suc, _+_, _*_, _/_, _%_, _^_, _≤_, _<_}
 use mathlib.Core.Path.{_≡_, refl, sym, ap, _∙_, subst}
-use mathlib.Core.Bool.{Bool, true, false, not, cond}
+use mathlib.Core.Bool.{true, false, cond}
 use native.Mathlib.Nat.{mod-eq-of-lt}
 use native.Mathlib.Omega.{arith}
 use lib.Dec.{T, lit<}
 use lib.Arith.{lt-of-le-ne}
-use lib.IntN.{ℤ, pos}
-use lib.Ieee.{Float, nan, inf, fin, binary64, fits, isNan, add, le, ofBits, toBits}
+use lib.IntN.{pos}
+use lib.Ieee.{Float, nan, inf, fin, binary64, fits, add, le, ofBits, toBits}
 use lib.Ieee.Bits.{ofBits-toBits}
 use lib.Ieee.Fits.{add-fits}
 use mir.Syntax.{w32}
@@ -15,8 +15,8 @@ use mir.Val.{toZ}
 use mir.Facts.{toZ-pos}
 use Rattle.rules.specs.declared.Staff.{Staff}
 use Rattle.rules.specs.Staff.{productFits, nearestWhole, withHeight, withoutHeight}
-use Rattle.laws.specs.Floats.{Alike, alike, unsignedZero, plus-nothing-is, plus-nothing}
-use Rattle.laws.specs.Nearest.{halfUp, half-up-more, half-up-less}
+use Rattle.laws.specs.Floats.{alike, unsignedZero, plus-nothing-is, plus-nothing}
+use Rattle.laws.specs.Nearest.{halfUp, half-up-more, half-up-less, magnitude, fits-alike, whole-alike}
 use Rattle.staff.proofs.AtLeast0.{no-sign}
 use Rattle.staff.proofs.Parts.{bare, exponent, significand, unit, limit, fits-below, no-fit-above, less-than-half, unit-pos, whole-fits, by-unit}
 
@@ -31,29 +31,21 @@ pub record StandsFor (x p : Float) : Type 0 where
 pub itself : {p : Float} → T (fits binary64 p) → T (le (ofBits binary64 0) p) → StandsFor p p
 itself {p} f l = record { fit = refl; whole = refl; held = f; no-sign = no-sign p f l }
 
-fit-unsigned : (p : Float) → productFits (unsignedZero p) ≡ productFits p
-unfolding productFits
-fit-unsigned nan = refl
-fit-unsigned (inf s) = refl
-fit-unsigned (fin false m e) = refl
-fit-unsigned (fin true zero e) = refl
-fit-unsigned (fin true (suc m) e) = refl
-
-whole-unsigned : (p : Float) → nearestWhole (unsignedZero p) ≡ nearestWhole p
-unfolding nearestWhole
-whole-unsigned nan = refl
-whole-unsigned (inf s) = refl
-whole-unsigned (fin false m e) = refl
-whole-unsigned (fin true zero e) = refl
-whole-unsigned (fin true (suc m) e) = refl
+no-sign-of-0 : (p : Float) → magnitude (unsignedZero p) ≡ magnitude p
+no-sign-of-0 nan = refl
+no-sign-of-0 (inf s) = refl
+no-sign-of-0 (fin false m e) = refl
+no-sign-of-0 (fin true zero e) = refl
+no-sign-of-0 (fin true (suc m) e) = refl
 
 pub with-nothing : {p : Float} → T (fits binary64 p) → T (le (ofBits binary64 0) p) → StandsFor (add binary64 p (ofBits binary64 0)) p
 with-nothing {p} f l =
     let x = add binary64 p (ofBits binary64 0) in
+    let same : magnitude x ≡ magnitude p = ap magnitude (plus-nothing-is p f) ∙ no-sign-of-0 p in
     let above : T (le (ofBits binary64 0) x) = subst T (sym (plus-nothing f (alike p) .high (ofBits binary64 0))) l in
     record {
-      fit = ap productFits (plus-nothing-is p f) ∙ fit-unsigned p;
-      whole = ap nearestWhole (plus-nothing-is p f) ∙ whole-unsigned p;
+      fit = fits-alike x p same;
+      whole = whole-alike x p same;
       held = add-fits binary64 p (ofBits binary64 0);
       no-sign = no-sign x (add-fits binary64 p (ofBits binary64 0)) above;
     }
@@ -82,8 +74,8 @@ module _ (x p : Float) where
   pub zero-is : (n : ℕ) → b ≡ n → bare n ≡ 0 → StandsFor x p → withHeight (pos 0) ≡ answer p
   zero-is n e z = small-is (subst (λ (u : ℕ). exponent u < 1022) (sym (ap bare e ∙ z)) (lit< tt))
 
-  pub none-is : exponent b < 1022 → StandsFor x p → withHeight (pos 0) ≡ answer p
-  none-is h = small-is (omega (arith, h))
+  pub less-than-half-is : exponent b < 1022 → StandsFor x p → withHeight (pos 0) ≡ answer p
+  less-than-half-is h = small-is (omega (arith, h))
 
   module _ (l : b ≤ limit) (low : 1022 ≤ exponent b) where
     no-sign-there : bare b ≡ b

@@ -1,29 +1,15 @@
--- A float at or above 0, as `0.0 <= x` tests it: it is no NaN, not below 0 as the definition has it, and its bits have no sign, but those of -0.0.
-use Prim.Native.Nat.{ℕ, zero, suc, _+_, _-_, _*_, _/_, _^_, _≤_, _<_, zero-le}
-use mathlib.Core.Path.{_≡_, refl, sym, ap, _∙_, subst}
+-- A float at or above 0, as `0.0 <= x` tests it: it is no NaN, and its bits have no sign, but those of -0.0.
+use Prim.Native.Nat.{ℕ, zero, suc, _+_, _-_, _*_, _/_, _^_, _≤_, _<_}
+use mathlib.Core.Path.{_≡_, sym, ap, _∙_, subst}
 use mathlib.Core.Bool.{Bool, true, false, not, _&&_, _||_, Bool·beq, cond}
-use native.Mathlib.Nat.{le-trans, le-of-eq, lt-irrefl, zero-lt-suc, mul-pos, add-assoc, zero-add, zero-mul, zero-div, mul-one}
+use native.Mathlib.Nat.{le-of-eq, add-assoc, zero-add, zero-mul, zero-div}
 use native.Mathlib.Omega.{arith}
-use lib.Dec.{T, ltb, eqb, eqb·zero-suc, eqb·suc-zero, lit<, lit≤}
-use lib.IntN.{ℤ, pos}
+use lib.Dec.{T, ltb, eqb·suc-zero, lit≤}
+use lib.IntN.{ℤ}
 use lib.Ieee.{Float, nan, inf, fin, Format, binary64, fits, isNan, up, down, round, sum, add, size, hid, le, lt, eq, ofBits, toBits}
 use lib.Ieee.Bits.{toBits-lt}
-use lib.Ieee.Fits.{up-pos, down-pos}
-use lib.Ieee.Order.{le-of-values}
-use Rattle.laws.specs.Tests.{true-of}
 use Rattle.laws.specs.Rounded.{rounded}
-
-not-0 : (n : ℕ) → 0 < n → eqb 0 n ≡ false
-not-0 zero h = absurd (lt-irrefl 0 h)
-not-0 (suc n) h = eqb·zero-suc n
-
-pub at-least-0 : (s : Bool) (m : ℕ) (e : ℤ) → le (ofBits binary64 0) (fin s m e) ≡ (not s || eqb m 0)
-unfolding le lt eq ofBits
-at-least-0 false m e =
-    true-of (le (fin false 0 (pos 0)) (fin false m e))
-    (le-of-values (fin false 0 (pos 0)) (fin false m e) 0 1 (m * up e) (down e) (lit< tt) (down-pos e) (refl, refl) (refl, refl) (le-trans (le-of-eq (zero-mul (down e))) zero-le))
-at-least-0 true zero e = rw (zero-mul (down e), zero-mul (up e))
-at-least-0 true (suc m) e = rw (zero-mul (down e), mul-one (suc m * up e), not-0 (suc m * up e) (mul-pos (zero-lt-suc m) (up-pos e))) (sym (eqb·suc-zero m))
+use Rattle.laws.specs.NotBelow.{at-least-0}
 
 pub as-tested : (v : Float) → le (ofBits binary64 0) v ≡ true → T (le (ofBits binary64 0) v)
 as-tested v e = subst T (sym e) tt

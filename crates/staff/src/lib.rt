@@ -43,7 +43,8 @@ fn nearest(product: f64) -> Staff
     }
     // The bits grow with what they stand for, and those of an infinity are the last. These are the bits of 50,000,000.
     if bits <= 0x4187_d784_0000_0000 {
-        // Below the exponent 1022 the product is less than a half. From there on its significand has a leading 1 that is not among the bits.
+        // Below the exponent 1022 the product is less than a half. From there on its significand has a leading 1 that is not among the bits, and the product is
+        // significand / 2 ^ (1075 - exponent).
         let exponent = bits / 0x10_0000_0000_0000;
         if exponent < 1022 {
             return with_height(0);

@@ -135,7 +135,7 @@ pub extern "C" fn water_depth_text(height: i32, scratch: &mut [u8]) -> usize
     text::write_text(height, scratch)
 }
 
-// What an inspector typed off a gauge staff, by its kind (0 no reading, 1 metres, 2 feet) and its value: the number, whether there is a height, and the height.
+// What an inspector read off a gauge staff and typed, by its kind (0 no reading, 1 metres, 2 feet) and its value: the number, whether there is a height, and the height.
 // Refused with 3, any other kind too: no height.
 #[no_mangle]
 pub extern "C" fn water_staff(kind: u32, value: f64) -> Staff

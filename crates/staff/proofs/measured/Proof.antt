@@ -1,8 +1,9 @@
 -- `measured`: a value at or above 0 has the answer of its product, and any other is refused.
 use mathlib.Core.Path.{_∙_}
 use borrow.Author.Needs.{needs}
+use Rattle.laws.specs.NotBelow.{product-at-least-0}
 use Rattle.staff.proofs.AtLeast0.{as-tested, if-above}
-use Rattle.staff.proofs.Products.{product-at-least-0, tested, below-0}
+use Rattle.staff.proofs.Products.{tested, below-0}
 use Rattle.staff.proofs.measured.Statement.{statement}
 use Rattle.staff.proofs.measured.Tie as tie
 

@@ -8,7 +8,7 @@ use lib.Ieee.{ofBits}
 use mir.Facts.{fits-of-lt}
 use Rattle.staff.proofs.AtLeast0.{number, plus-number}
 use Rattle.staff.proofs.Parts.{unit-pos, rest-fits, whole-fits}
-use Rattle.staff.proofs.Answers.{itself, with-nothing, zero-is, none-is, more-is, less-is, refused-is}
+use Rattle.staff.proofs.Answers.{itself, with-nothing, zero-is, less-than-half-is, more-is, less-is, refused-is}
 use Rattle.staff.proofs.nearest.Statement.{statement}
 use Rattle.staff.proofs.nearest.Tie as tie
 
@@ -30,7 +30,7 @@ with-height-requires-2 : tie.Need-with-height-requires-2
 with-height-requires-2 c κs = search needs
 
 returns-2 : tie.Need-returns-2
-returns-2 c = c .with-height2 .ensures ∙ none-is _ _ (c .before .if3 .taken) (search standing)
+returns-2 c = c .with-height2 .ensures ∙ less-than-half-is _ _ (c .before .if3 .taken) (search standing)
 
 add-significand : tie.Need-add-significand
 add-significand c = search needs

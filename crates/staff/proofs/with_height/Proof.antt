@@ -1,5 +1,4 @@
 -- `with_height`: the record that is returned is the definition's.
-use mathlib.Core.Path.{refl}
 use borrow.Author.Needs.{needs}
 use Rattle.rules.specs.Staff.{withHeight}
 use Rattle.staff.proofs.with_height.Statement.{statement}

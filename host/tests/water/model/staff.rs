@@ -35,7 +35,8 @@ impl Scaled {
 
     /// The nearest float, and of two as near the even one; none if that is 2^1024 or more.
     fn rounded(self) -> Option<Scaled> {
-        let dropped = (self.bits() - KEPT).max(LEAST - self.power).max(0);
+        // a whole factor leaves no power below the least
+        let dropped = (self.bits() - KEPT).max(0);
         let unit = 1 << dropped;
         let (kept, rest) = (self.whole / unit, self.whole % unit);
         let up = 2 * rest > unit || (2 * rest == unit && kept % 2 == 1);

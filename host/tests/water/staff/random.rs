@@ -25,6 +25,18 @@ fn random_readings() {
     assert!(single() || (heights > 10_000 && first > 500));
 }
 
+/// Any bits at all, in both units. A quarter of them are read, nearly all as 0: most floats are very small or very great.
+#[test]
+fn random_bits() {
+    let mut read = 0u64;
+    trials("staff bits", 20_000, |rng| {
+        let value = f64::from_bits(rng.next());
+        read += UNITS.iter().filter(|unit| unit.read(value).is_some()).count() as u64;
+    });
+    println!("staff bits: {read} were read");
+    assert!(single() || read > 8_000);
+}
+
 /// In the order of their values, heights rise, and behind the first that is refused all are.
 #[test]
 fn a_greater_value_gives_no_smaller_height() {
