@@ -28,7 +28,7 @@ round-at-least-0 : (a c : ℕ) → T (le (ofBits binary64 0) (round binary64 fal
 unfolding le lt ofBits
 round-at-least-0 a c = rounded (λ z. T (le (ofBits binary64 0) z)) binary64 false a c tt (λ m e. subst T (sym (at-least-0 false m e)) tt)
 
--- of a 0, whatever its sign
+-- of -0.0
 rounded-0 : round binary64 true 0 1 ≡ fin true 0 (pos 0)
 unfolding round units odd size span climb
 rounded-0 = refl

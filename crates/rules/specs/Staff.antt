@@ -11,17 +11,18 @@ use Rattle.rules.specs.Search.{asFloat}
 
 -- ---- One value
 
--- its product with the factor of its unit, rounded once as floats do
-unfoldable pub product : (factor : ℕ) (value : Float) → Float
-product factor v = mul binary64 v (asFloat (pos factor))
-
 -- refusal 3: a value not finite, or below 0; -0.0 is 0
 unfoldable pub valueFits : Float → Bool
 valueFits nan = false
 valueFits (inf s) = false
 valueFits (fin s m e) = not s || eqb m 0
 
--- Of the product of a value that fits the sign is not asked: it is +, or - with m = 0.
+-- ---- Its product. Its sign is not asked: where the value fits it is +, or - with m = 0
+
+-- a value times the factor of its unit, rounded once as floats do
+unfoldable pub product : (factor : ℕ) (value : Float) → Float
+product factor v = mul binary64 v (asFloat (pos factor))
+
 -- refusal 3: a product above 50,000,000; one that overflows is an infinity, and above
 unfoldable pub productFits : Float → Bool
 productFits nan = false
