@@ -11,9 +11,6 @@ use lib.Ieee.Bits.{toBits-lt}
 use Rattle.laws.specs.Rounded.{rounded}
 use Rattle.laws.specs.NotBelow.{at-least-0}
 
-pub as-tested : (v : Float) → le (ofBits binary64 0) v ≡ true → T (le (ofBits binary64 0) v)
-as-tested v e = subst T (sym e) tt
-
 -- above 0 is at or above it
 pub if-above : (v : Float) → lt (ofBits binary64 0) v ≡ true → T (le (ofBits binary64 0) v)
 unfolding le

@@ -1,4 +1,4 @@
 pub mod Parts
 pub mod AtLeast0
 pub mod Answers
-pub mod Products
+pub mod ByTheTest

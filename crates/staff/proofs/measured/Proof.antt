@@ -2,13 +2,14 @@
 use mathlib.Core.Path.{_∙_}
 use borrow.Author.Needs.{needs}
 use Rattle.laws.specs.NotBelow.{product-at-least-0}
-use Rattle.staff.proofs.AtLeast0.{as-tested, if-above}
-use Rattle.staff.proofs.Products.{tested, below-0}
+use Rattle.laws.specs.Tests.{to-T}
+use Rattle.staff.proofs.AtLeast0.{if-above}
+use Rattle.staff.proofs.ByTheTest.{tested, below-0}
 use Rattle.staff.proofs.measured.Statement.{statement}
 use Rattle.staff.proofs.measured.Tie as tie
 
 -- above 0 is at or above 0 too: a test that leaves 0 out is refused for what it answers then
-ruleset at-least-0s = (as-tested, if-above, needs)
+ruleset at-least-0s = (to-T, if-above, needs)
 
 nearest-requires : tie.Need-nearest-requires
 nearest-requires c κs = product-at-least-0 _ _ (search needs) (search at-least-0s)

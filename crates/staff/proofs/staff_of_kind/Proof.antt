@@ -3,23 +3,13 @@ use mathlib.Core.Path.{_≡_, refl, sym, ap, _∙_}
 use Prim.Native.Nat.{ℕ, zero, suc}
 use borrow.Author.Needs.{needs}
 use lib.Ieee.{Float}
-use Rattle.rules.specs.declared.Reading.the-variants.{Metres, Feet, Nothing}
 use Rattle.rules.specs.Staff.{withoutHeight}
-use Rattle.rules.specs.Calls.{staffAnswer, kindAnswer}
+use Rattle.rules.specs.Calls.{kindAnswer}
 use Rattle.staff.proofs.staff_of_kind.Statement.{statement}
 use Rattle.staff.proofs.staff_of_kind.Tie as tie
 
-kind-0 : (k : ℕ) (v : Float) → k ≡ 0 → staffAnswer Nothing ≡ kindAnswer k v
-unfolding kindAnswer
-kind-0 k v e = ap (λ n. kindAnswer n v) (sym e)
-
-kind-1 : (k : ℕ) (v : Float) → k ≡ 1 → staffAnswer (Metres v) ≡ kindAnswer k v
-unfolding kindAnswer
-kind-1 k v e = ap (λ n. kindAnswer n v) (sym e)
-
-kind-2 : (k : ℕ) (v : Float) → k ≡ 2 → staffAnswer (Feet v) ≡ kindAnswer k v
-unfolding kindAnswer
-kind-2 k v e = ap (λ n. kindAnswer n v) (sym e)
+same-kind : (n k : ℕ) (v : Float) → k ≡ n → kindAnswer n v ≡ kindAnswer k v
+same-kind n k v e = ap (λ j. kindAnswer j v) (sym e)
 
 no-kind : (k : ℕ) (v : Float) → (k ≡ 0 → ⊥) → (k ≡ 1 → ⊥) → (k ≡ 2 → ⊥) → withoutHeight 3 ≡ kindAnswer k v
 unfolding kindAnswer
@@ -41,13 +31,16 @@ without-height-requires : tie.Need-without-height-requires
 without-height-requires c κs = search needs
 
 returns : tie.Need-returns
-returns c = record { answer = c .staff-height .ensures .answer ∙ kind-0 _ _ (search needs) }
+unfolding kindAnswer
+returns c = record { answer = c .staff-height .ensures .answer ∙ same-kind 0 (c .before .before .args .kind) _ (search needs) }
 
 returns-2 : tie.Need-returns-2
-returns-2 c = record { answer = c .staff-height2 .ensures .answer ∙ kind-1 _ _ (search needs) }
+unfolding kindAnswer
+returns-2 c = record { answer = c .staff-height2 .ensures .answer ∙ same-kind 1 (c .before .before .args .kind) _ (search needs) }
 
 returns-3 : tie.Need-returns-3
-returns-3 c = record { answer = c .staff-height3 .ensures .answer ∙ kind-2 _ _ (search needs) }
+unfolding kindAnswer
+returns-3 c = record { answer = c .staff-height3 .ensures .answer ∙ same-kind 2 (c .before .before .args .kind) _ (search needs) }
 
 returns-4 : tie.Need-returns-4
 returns-4 c = record { answer = c .without-height .ensures ∙ no-kind _ _ (search needs) (search needs) (search needs) }
