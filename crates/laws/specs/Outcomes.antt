@@ -40,3 +40,9 @@ module _ {A : Type 0} where
   unfolding ifDone
   if-same zero refused h = h refl
   if-same (suc k) refused h = refl
+
+  -- what holds of both holds of what is left
+  pub if-either : (P : A → Type 0) (k : ℕ) (done refused : A) → (k ≡ 0 → P done) → P refused → P (ifDone k done refused)
+  unfolding ifDone
+  if-either P zero done refused f p = f refl
+  if-either P (suc k) done refused f p = p

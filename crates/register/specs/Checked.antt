@@ -1,10 +1,10 @@
--- What the register's parts may rest on once the checks have passed, and what they hand back.
+-- What the register's parts may rest on once the checks have passed.
 use mathlib.Core.Path.{_≡_}
 use mathlib.Core.Bool.{true}
-use mathlib.Core.List.{List, _++_}
+use mathlib.Core.List.{List}
 use Prim.Native.Nat.{ℕ, _*_, _≤_}
 use lib.IntN.{ℤ}
-use lib.ListN.{length, drop}
+use lib.ListN.{length}
 use Rattle.rules.specs.declared.Card.{Card}
 use Rattle.rules.specs.Site.{cardFits, cells, heightFits, heightsFit, readState}
 use Rattle.rules.specs.Search.{allAlong}
@@ -19,8 +19,3 @@ pub record Checked (c : Card) (s xs ys : List ℤ) (depth : ℤ) : Type 0 where
   pub few : length xs ≤ 1000
   pub x-fits : allAlong (c .columns * c .dx) xs ≡ true
   pub y-fits : allAlong (c .rows * c .dy) ys ≡ true
-
--- a list laid at the front of an old one
-pub record Listed (l old : List ℕ) (count : ℕ) (new : List ℕ) : Type 0 where
-  pub counted : count ≡ length l
-  pub laid : new ≡ l ++ drop (length l) old

@@ -11,8 +11,7 @@ use mir.Syntax.{w32}
 use mir.Val.{toZ}
 use mir.Facts.{toZ-ofZ}
 use Rattle.rules.specs.Search.{listedAt, listOf, places}
-use Rattle.laws.specs.Listings.{Listing, list-none, list-few, list-length, list-yes, list-no, list-all}
-use Rattle.register.specs.Checked.{Listed}
+use Rattle.laws.specs.Listings.{Listed, Listing, list-none, list-few, list-length, list-yes, list-no, list-all}
 use Rattle.register.proofs.list.Statement.{statement}
 use Rattle.register.proofs.list.Tie as tie
 
@@ -38,11 +37,15 @@ cast-draft c = let at = c .before .before .before in omega (arith, at .before .b
 small : (c : tie.Then1 Inv-loop μ-loop) → c .before .before .before .loop .n < 1000
 small c = let at = c .before .before .before in omega (arith, list-few (at .loop .inv), at .before .before .pre .0 .few)
 
+-- the draft has room for one place more
+room : (at : tie.At-loop Inv-loop μ-loop) → at .loop .k < length (at .before .before .args .xs .now) → at .loop .n < length (at .before .before .args .draft .now)
+room at less = omega (arith, list-few (at .loop .inv), at .before .before .pre .1)
+
 mul-draft : tie.Need-mul-draft Inv-loop μ-loop
 mul-draft c = omega (arith, small c)
 
 slice-write-draft : tie.Need-slice-write-draft Inv-loop μ-loop
-slice-write-draft c = let at = c .before .before .before in omega (arith, list-few (at .loop .inv), list-length (at .loop .inv) (at .before .before .pre .1), at .before .before .pre .1)
+slice-write-draft c = let at = c .before .before .before in omega (arith, room at (c .before .before .loop-test .taken), list-length (at .loop .inv) (omega (arith, room at (c .before .before .loop-test .taken))))
 
 add-n : tie.Need-add-n Inv-loop μ-loop
 add-n c = omega (arith, small c)
@@ -60,20 +63,19 @@ loop-again c =
     let less = c .before .before .loop-test .taken in
     let said = c .before .listed-at .ensures in
     ⊎-elim
-    (λ w. list-yes (at .loop .inv) less (o .pre .1) (sym said ∙ w .0 .taken) (w .1) (w .2))
+    (λ w. list-yes (at .loop .inv) less (room at less) (sym said ∙ w .0 .taken) (w .1) (w .2))
     (λ w. list-no (at .loop .inv) less (sym said ∙ w .0 .left) (w .1) (w .2))
     (c .if1 .came)
 
 same-length : tie.Need-same-length Inv-loop μ-loop
-same-length c = list-length (c .before .loop .inv) (c .before .before .before .pre .1)
+same-length c = let at = c .before in list-length (at .loop .inv) (omega (arith, list-few (at .loop .inv), at .loop .inv .most, at .before .before .pre .1))
 
 returns : tie.Need-returns Inv-loop μ-loop
 unfolding listOf
 returns c =
     let o = c .before .before .before in
-    let all = list-all (c .before .loop .inv) (c .loop-test .left) in
     subst (λ (z : ℤ). Listed (places (length (o .args .xs .now)) (test o z)) (o .args .draft .now) (c .before .loop .n) (c .before .loop .draft)) (toZ-ofZ (o .fits .depth))
-    (record { counted = all .counted; laid = all .is })
+    (list-all (c .before .loop .inv) (c .loop-test .left))
 
 pub list-spec : {M : Type 1} → statement M
 list-spec =

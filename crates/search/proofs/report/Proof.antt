@@ -11,7 +11,7 @@ use lib.ListN.{length, drop}
 use mir.Facts.{toZ-ofZ}
 use Rattle.rules.specs.Search.{listOf, listedAt}
 use Rattle.laws.specs.Listings.{places-few}
-use Rattle.register.specs.Checked.{Listed}
+use Rattle.laws.specs.Listings.{Listed}
 use Rattle.search.proofs.Answers.{enough, nothing, all-of-it, number-8, number-0, left-is}
 use Rattle.search.proofs.report.Statement.{statement}
 use Rattle.search.proofs.report.Tie as tie

@@ -1,0 +1,209 @@
+// The pin table: what its words are, what every call asks of it, and how one place changes.
+ghost use mathlib.Core.Path.{_≡_};
+ghost use Prim.Native.Nat.{_≤_, _<_};
+ghost use lib.ListN.{length};
+ghost use Rattle.pins_rules.specs.Table.{pin as Table·pin, crewOf, chamberOf, isCrew, isChamber, wordFits, stands as Table·stands, wordsFit, eachOnce, held as Table·held, tableFits, firstChanged};
+ghost use Rattle.rules.specs.Site.{firstRefusal};
+ghost use Rattle.pins_rules.specs.Calls.{unless as Calls·unless, crewNumber, chamberNumber, addNumber, removeNumber};
+ghost use Rattle.pins_laws.specs.Found.{FirstPlace};
+
+// ---- Words
+
+// A crew's pin on a chamber, as a word.
+pub fn pin(crew: u32, chamber: u32) -> u32
+    requires { ⌜ (crew ≤ 2) × (chamber < 1000) ⌝ }
+    ensures { λ r. ⌜ r ≡ Table·pin crew chamber ⌝ }
+{
+    crew * 65536 + chamber
+}
+
+fn crew_of(word: u32) -> u32
+    ensures { λ r. ⌜ r ≡ crewOf word ⌝ }
+{
+    word / 65536
+}
+
+fn chamber_of(word: u32) -> u32
+    ensures { λ r. ⌜ r ≡ chamberOf word ⌝ }
+{
+    word % 65536
+}
+
+fn is_crew(crew: u32) -> bool
+    ensures { λ r. ⌜ r ≡ isCrew crew ⌝ }
+{
+    (1 <= crew) & (crew <= 2)
+}
+
+fn is_chamber(chamber: u32) -> bool
+    ensures { λ r. ⌜ r ≡ isChamber chamber ⌝ }
+{
+    chamber < 1000
+}
+
+// Whether a word is free, or a known crew's pin on a chamber.
+fn word_fits(word: u32) -> bool
+    ensures { λ r. ⌜ r ≡ wordFits word ⌝ }
+{
+    let crew = is_crew(crew_of(word));
+    let chamber = is_chamber(chamber_of(word));
+    (word == 0) | (crew & chamber)
+}
+
+// ---- All words
+
+// Whether a word stands among these.
+pub fn stands(words: &[u32], word: u32) -> bool
+    ensures { λ r. ⌜ r ≡ Table·stands word (now (words .entry)) ⌝ }
+{
+    let mut found = false;
+    for k in 0..words.len() {
+        found = found | (words[k] == word);
+    }
+    found
+}
+
+fn words_fit(table: &[u32]) -> bool
+    ensures { λ r. ⌜ r ≡ wordsFit (now (table .entry)) ⌝ }
+{
+    let mut fit = true;
+    for k in 0..table.len() {
+        fit = fit & word_fits(table[k]);
+    }
+    fit
+}
+
+// Whether no pin stands there twice: none stands again behind its place.
+fn each_once(table: &[u32]) -> bool
+    ensures { λ r. ⌜ r ≡ eachOnce (now (table .entry)) ⌝ }
+{
+    let mut once = true;
+    for k in 0..table.len() {
+        let word = table[k];
+        let behind = k + 1;
+        let again = stands(&table[behind..], word);
+        once = once & ((word == 0) | !again);
+    }
+    once
+}
+
+// How many pins a crew has.
+pub fn held(table: &[u32], crew: u32) -> usize
+    ensures { λ r. ⌜ r ≡ Table·held crew (now (table .entry)) ⌝ }
+{
+    let mut n: usize = 0;
+    for k in 0..table.len() {
+        let whose = crew_of(table[k]);
+        if whose == crew {
+            n += 1;
+        }
+    }
+    n
+}
+
+// Whether a table passes. All of it is looked at, the other crew's pins too.
+fn table_fits(table: &[u32]) -> bool
+    ensures { λ r. ⌜ r ≡ tableFits (now (table .entry)) ⌝ }
+{
+    let one = held(table, 1) <= 32;
+    let two = held(table, 2) <= 32;
+    words_fit(table) & each_once(table) & one & two
+}
+
+// ---- The numbers, in document 02's order
+
+// A refusal's number, unless its test passes.
+fn unless(passes: bool, number: u32) -> u32
+    ensures { λ r. ⌜ r ≡ Calls·unless passes number ⌝ }
+{
+    if passes {
+        return 0;
+    }
+    number
+}
+
+// The first of two numbers that refuses.
+fn first_refusal(number: u32, later: u32) -> u32
+    ensures { λ r. ⌜ r ≡ firstRefusal number later ⌝ }
+{
+    if number != 0 {
+        return number;
+    }
+    later
+}
+
+// What every call asks. No word is read where a length is wrong.
+pub fn crew_number(lengths: bool, table: &[u32], crew: u32) -> u32
+    ensures { λ r. ⌜ r ≡ crewNumber lengths (now (table .entry)) crew ⌝ }
+{
+    if !lengths {
+        return 2;
+    }
+    if !table_fits(table) {
+        return 3;
+    }
+    if !is_crew(crew) {
+        return 11;
+    }
+    0
+}
+
+fn chamber_number(table: &[u32], crew: u32, chamber: u32) -> u32
+    ensures { λ r. ⌜ r ≡ chamberNumber (now (table .entry)) crew chamber ⌝ }
+{
+    let number = crew_number(table.len() == 64, table, crew);
+    if number != 0 {
+        return number;
+    }
+    unless(is_chamber(chamber), 12)
+}
+
+pub fn add_number(table: &[u32], crew: u32, chamber: u32) -> u32
+    ensures { λ r. ⌜ r ≡ addNumber (now (table .entry)) crew chamber ⌝ }
+{
+    let number = chamber_number(table, crew, chamber);
+    if number != 0 {
+        return number;
+    }
+    let pinned = unless(!stands(table, pin(crew, chamber)), 13);
+    let full = unless(held(table, crew) < 32, 14);
+    first_refusal(pinned, full)
+}
+
+pub fn remove_number(table: &[u32], crew: u32, chamber: u32) -> u32
+    ensures { λ r. ⌜ r ≡ removeNumber (now (table .entry)) crew chamber ⌝ }
+{
+    let number = chamber_number(table, crew, chamber);
+    if number != 0 {
+        return number;
+    }
+    unless(stands(table, pin(crew, chamber)), 13)
+}
+
+// ---- One place changes
+
+// The lowest place that has a word, or the number of places where none has.
+fn first_place(table: &[u32], word: u32) -> usize
+    ensures { λ r. ⌜ FirstPlace word (now (table .entry)) (length (now (table .entry))) r ⌝ }
+{
+    let none = table.len();
+    let mut at = none;
+    for k in 0..none {
+        let here = table[k] == word;
+        // A later place counts only where there was none before.
+        if here & (none <= at) {
+            at = k;
+        }
+    }
+    at
+}
+
+// The lowest place that has one word gets another.
+pub fn change(table: &mut [u32], from: u32, to: u32)
+    ensures { λ r. ⌜ now (table .exit) ≡ firstChanged from to (now (table .entry)) ⌝ }
+{
+    let at = first_place(table, from);
+    if at < table.len() {
+        table[at] = to;
+    }
+}

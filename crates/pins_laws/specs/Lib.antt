@@ -1,0 +1,9 @@
+pub mod Words
+pub mod Changes
+pub mod Once
+pub mod Counts
+pub mod Sound
+pub mod Granted
+pub mod Folds
+pub mod Found
+pub mod Least

@@ -1,0 +1,85 @@
+-- The words of a pin table: a pin's crew and chamber come back, pins that are equal are one crew's on one chamber, and what a word that fits is.
+use Prim.Native.Nat.{ℕ, _+_, _*_, _≤_, _<_}
+use mathlib.Core.Path.{_≡_, sym, _∙_, subst}
+use mathlib.Core.Bool.{Bool, true, false, cond, not, _&&_, _||_}
+use mathlib.Core.Logic.{_⊎_, inl, inr}
+use native.Mathlib.Nat.{div-add-mod'}
+use native.Mathlib.Omega.{arith}
+use lib.Arith.{digits-div, digits-mod}
+use lib.Dec.{T, leb, ltb, eqb, leb→le, le→leb, ltb→lt, lt→ltb, eqb→eq}
+use borrow.Author.Tests.{eq-eqb}
+use Rattle.laws.specs.Tests.{and-both, and-left, and-right}
+use Rattle.pins_rules.specs.Table.{pin, crewOf, chamberOf, isCrew, isChamber, wordFits}
+
+-- ---- tests joined by `_||_`
+
+pub or-cases : (a b : Bool) → T (a || b) → T a ⊎ T b
+or-cases true b t = inl tt
+or-cases false b t = inr t
+
+pub or-left : (a b : Bool) → T a → T (a || b)
+or-left true b t = tt
+or-left false b t = absurd t
+
+pub or-right : (a b : Bool) → T b → T (a || b)
+or-right true b t = tt
+or-right false b t = t
+
+-- ---- pins
+
+pub crew-of-pin : (crew : ℕ) {chamber : ℕ} → chamber < 65536 → crewOf (pin crew chamber) ≡ crew
+unfolding pin crewOf
+crew-of-pin crew h = digits-div crew h
+
+pub chamber-of-pin : (crew : ℕ) {chamber : ℕ} → chamber < 65536 → chamberOf (pin crew chamber) ≡ chamber
+unfolding pin chamberOf
+chamber-of-pin crew h = digits-mod crew h
+
+pub pin-of-word : (word : ℕ) → pin (crewOf word) (chamberOf word) ≡ word
+unfolding pin crewOf chamberOf
+pin-of-word w = div-add-mod' w 65536
+
+pub same-chamber : (crew chamber other : ℕ) → pin crew chamber ≡ pin crew other → chamber ≡ other
+unfolding pin
+same-chamber crew chamber other e = omega arith
+
+-- ---- crews and chambers, as facts
+
+pub record Crew (crew : ℕ) : Type 0 where
+  pub least : 1 ≤ crew
+  pub most : crew ≤ 2
+
+pub crew-is : {crew : ℕ} → T (isCrew crew) → Crew crew
+crew-is {crew} t = record { least = leb→le 1 crew (and-left (leb 1 crew) _ t); most = leb→le crew 2 (and-right (leb 1 crew) _ t) }
+
+pub is-crew : {crew : ℕ} → Crew crew → T (isCrew crew)
+is-crew {crew} k = and-both (leb 1 crew) (leb crew 2) (le→leb 1 crew (k .least)) (le→leb crew 2 (k .most))
+
+pub pin-not-free : {crew : ℕ} (chamber : ℕ) → Crew crew → pin crew chamber ≡ 0 → ⊥
+unfolding pin
+pin-not-free chamber k e = omega arith
+
+-- ---- words that fit
+
+pub data Fitting : ℕ → Type 0 where
+  none : Fitting 0
+  one : {crew chamber : ℕ} → Crew crew → chamber < 1000 → Fitting (pin crew chamber)
+
+pub fitting : {word : ℕ} → T (wordFits word) → Fitting word
+unfolding wordFits
+fitting {word} t = elim (or-cases (eqb word 0) _ t) [
+  | inl e ↦ subst Fitting (sym (eqb→eq word 0 e)) none
+  | inr k ↦ subst Fitting (pin-of-word word) (one (crew-is (and-left (isCrew (crewOf word)) _ k)) (ltb→lt (chamberOf word) 1000 (and-right (isCrew (crewOf word)) _ k)))
+]
+
+pub none-fits : T (wordFits 0)
+unfolding wordFits
+none-fits = tt
+
+pub pin-fits : {crew chamber : ℕ} → Crew crew → chamber < 1000 → T (wordFits (pin crew chamber))
+unfolding wordFits
+pin-fits {crew} {chamber} k h =
+    or-right (eqb (pin crew chamber) 0) (isCrew (crewOf (pin crew chamber)) && isChamber (chamberOf (pin crew chamber)))
+    (and-both (isCrew (crewOf (pin crew chamber))) (isChamber (chamberOf (pin crew chamber)))
+    (subst (λ (n : ℕ). T (isCrew n)) (sym (crew-of-pin crew {chamber = chamber} (omega arith))) (is-crew k))
+    (subst (λ (n : ℕ). T (isChamber n)) (sym (chamber-of-pin crew {chamber = chamber} (omega arith))) (lt→ltb chamber 1000 h)))

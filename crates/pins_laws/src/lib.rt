@@ -1,0 +1,1 @@
+// What follows of pin tables from their definitions: no code, only the laws in specs/.
