@@ -1,4 +1,5 @@
 -- `add_number`: the chamber's number, and then 13 and 14.
+use native.Mathlib.Omega.{arith}
 use mathlib.Core.Path.{sym, ap, ap₂, _∙_}
 use mathlib.Core.Bool.{Bool, not}
 use Prim.Native.Nat.{ℕ}
@@ -20,7 +21,7 @@ unfolding addNumber
 returns c = let said = c .before .chamber-number .ensures in said ∙ sym (first-refused _ _ (λ z. c .if1 .taken (said ∙ z)))
 
 pin-requires : tie.Need-pin-requires
-pin-requires c κs = let e = c .before in let g = chamber-granted _ _ _ (sym (e .chamber-number .ensures) ∙ c .if1 .left) in (g .known .most, g .below)
+pin-requires c κs = let e = c .before in let g = chamber-granted _ _ _ (sym (e .chamber-number .ensures) ∙ c .if1 .left) in (omega (arith, g .known .most), g .below)
 
 stands-requires : tie.Need-stands-requires
 stands-requires c κs = search needs

@@ -1,4 +1,5 @@
 -- `pins_remove`: refused, and the table stays; or done, and one place changed.
+use native.Mathlib.Omega.{arith}
 use Prim.Native.Nat.{ℕ}
 use Rattle.pins_rules.specs.Table.{firstChanged, withoutPin}
 use mathlib.Core.Path.{sym, _∙_, ap}
@@ -18,7 +19,7 @@ returns : tie.Need-returns
 returns c = let e = c .before in remove-refused (e .remove-number .ensures) (c .if1 .taken)
 
 pin-requires : tie.Need-pin-requires
-pin-requires c κs = let e = c .before in let g = remove-granted _ _ _ (sym (e .before .remove-number .ensures) ∙ e .if1 .left) in (g .asked .known .most, g .asked .below)
+pin-requires c κs = let e = c .before in let g = remove-granted _ _ _ (sym (e .before .remove-number .ensures) ∙ e .if1 .left) in (omega (arith, g .asked .known .most), g .asked .below)
 
 change-requires : tie.Need-change-requires
 change-requires c κs = search needs
