@@ -1,11 +1,13 @@
 // The pin table: what its words are, what every call asks of it, and how one place changes.
 ghost use mathlib.Core.Path.{_≡_};
 ghost use Prim.Native.Nat.{_≤_, _<_};
-ghost use lib.ListN.{length};
+ghost use lib.ListN.{length, replicate};
+ghost use mathlib.Core.Bool.{true};
 ghost use Rattle.pins_rules.specs.Table.{pin as Table·pin, crewOf, chamberOf, isCrew, isChamber, wordFits, stands as Table·stands, wordsFit, eachOnce, held as Table·held, tableFits, firstChanged};
 ghost use Rattle.rules.specs.Site.{firstRefusal};
 ghost use Rattle.pins_rules.specs.Calls.{unless as Calls·unless, crewNumber, chamberNumber, addNumber, removeNumber};
 ghost use Rattle.pins_laws.specs.Found.{FirstPlace};
+ghost use Rattle.pins_laws.specs.Marks.{Markable, MarkedBy, Unmarked};
 
 // ---- Words
 
@@ -17,13 +19,13 @@ pub fn pin(crew: u32, chamber: u32) -> u32
     crew * 65536 + chamber
 }
 
-fn crew_of(word: u32) -> u32
+pub fn crew_of(word: u32) -> u32
     ensures { λ r. ⌜ r ≡ crewOf word ⌝ }
 {
     word / 65536
 }
 
-fn chamber_of(word: u32) -> u32
+pub fn chamber_of(word: u32) -> u32
     ensures { λ r. ⌜ r ≡ chamberOf word ⌝ }
 {
     word % 65536
@@ -53,7 +55,7 @@ fn word_fits(word: u32) -> bool
 // ---- All words
 
 // Whether a word stands among these.
-pub fn stands(words: &[u32], word: u32) -> bool
+fn stands(words: &[u32], word: u32) -> bool
     ensures { λ r. ⌜ r ≡ Table·stands word (now (words .entry)) ⌝ }
 {
     let mut found = false;
@@ -73,25 +75,12 @@ fn words_fit(table: &[u32]) -> bool
     fit
 }
 
-// Whether no pin stands there twice: none stands again behind its place.
-fn each_once(table: &[u32]) -> bool
-    ensures { λ r. ⌜ r ≡ eachOnce (now (table .entry)) ⌝ }
-{
-    let mut once = true;
-    for k in 0..table.len() {
-        let word = table[k];
-        let behind = k + 1;
-        let again = stands(&table[behind..], word);
-        once = once & ((word == 0) | !again);
-    }
-    once
-}
-
 // How many pins a crew has.
-pub fn held(table: &[u32], crew: u32) -> usize
+fn held(table: &[u32], crew: u32) -> u32
+    requires { ⌜ length (now table) ≤ 64 ⌝ }
     ensures { λ r. ⌜ r ≡ Table·held crew (now (table .entry)) ⌝ }
 {
-    let mut n: usize = 0;
+    let mut n: u32 = 0;
     for k in 0..table.len() {
         let whose = crew_of(table[k]);
         if whose == crew {
@@ -101,13 +90,56 @@ pub fn held(table: &[u32], crew: u32) -> usize
     n
 }
 
-// Whether a table passes. All of it is looked at, the other crew's pins too.
+// One byte for each chamber, none of them marked.
+fn no_marks() -> [u8; 1000]
+    ensures { λ r. ⌜ r ≡ replicate 1000 0 ⌝ }
+{
+    [0; 1000]
+}
+
+// Marks a pin's chamber by its crew, and says whether it was not marked so. A free word marks nothing.
+fn mark(marks: &mut [u8], word: u32) -> bool
+    requires { ⌜ Markable word (now marks) ⌝ }
+    ensures { λ r. ⌜ MarkedBy word (now (marks .entry)) r (now (marks .exit)) ⌝ }
+{
+    if word == 0 {
+        return true;
+    }
+    let at = chamber_of(word) as usize;
+    let crew = crew_of(word) as u8;
+    let before = marks[at];
+    marks[at] = before | crew;
+    before & crew == 0
+}
+
+// Whether no pin stands there twice, by marks. A look at each pair of places takes four times as long.
+fn each_once(table: &[u32], marks: &mut [u8]) -> bool
+    requires { ⌜ Unmarked (now table) (now marks) ⌝ }
+    ensures { λ r. ⌜ r ≡ eachOnce (now (table .entry)) ⌝ }
+{
+    let mut k = table.len();
+    while 0 < k {
+        k -= 1;
+        if !mark(marks, table[k]) {
+            return false;
+        }
+    }
+    true
+}
+
+// Whether a table of 64 words passes. All of it is looked at, the other crew's pins too.
 fn table_fits(table: &[u32]) -> bool
+    requires { ⌜ length (now table) ≤ 64 ⌝ }
     ensures { λ r. ⌜ r ≡ tableFits (now (table .entry)) ⌝ }
 {
+    if !words_fit(table) {
+        return false;
+    }
+    let mut marks = no_marks();
+    let once = each_once(table, &mut marks);
     let one = held(table, 1) <= 32;
     let two = held(table, 2) <= 32;
-    words_fit(table) & each_once(table) & one & two
+    once & one & two
 }
 
 // ---- The numbers, in document 02's order
@@ -134,6 +166,7 @@ fn first_refusal(number: u32, later: u32) -> u32
 
 // What every call asks. No word is read where a length is wrong.
 pub fn crew_number(lengths: bool, table: &[u32], crew: u32) -> u32
+    requires { ⌜ (lengths ≡ true → length (now table) ≡ 64) ⌝ }
     ensures { λ r. ⌜ r ≡ crewNumber lengths (now (table .entry)) crew ⌝ }
 {
     if !lengths {

@@ -66,26 +66,36 @@ finds-a-place table t h = free-stands table t (omega (arith, all-of-three table 
 -- ---- a crew's listing
 
 module _ (crew : ℕ) where
-  none-listed : length (pinsOf [] crew) ≡ 0
+  pub none-listed : pinsOf [] crew ≡ []
   unfolding pinsOf pinned stands
-  none-listed = ap length (places-empty (pinned [] crew) 1000 (λ j h. refl))
+  none-listed = places-empty (pinned [] crew) 1000 (λ j h. refl)
 
   -- a word before a table that is not this crew's
-  other-listed : (w : ℕ) (rest : List ℕ) → (crewOf w ≡ crew → ⊥) → pinsOf (w ∷ rest) crew ≡ pinsOf rest crew
+  pub other-listed : (w : ℕ) (rest : List ℕ) → (crewOf w ≡ crew → ⊥) → pinsOf (w ∷ rest) crew ≡ pinsOf rest crew
   unfolding pinsOf pinned stands
   other-listed w rest other = places-same 1000 (pinned (w ∷ rest) crew) (pinned rest crew) (λ j h. ap (λ (b : Bool). b || stands (pin crew j) rest) (differs j h))
     where
       differs : (j : ℕ) → j < 1000 → eqb w (pin crew j) ≡ false
       differs j h = ne-eqb w (pin crew j) (λ e. other (ap crewOf e ∙ crew-of-pin crew {chamber = j} (omega arith)))
 
-  -- a pin of its own before a table that has it not
-  own-listed : (chamber : ℕ) (rest : List ℕ) → chamber < 1000 → T (not (stands (pin crew chamber) rest)) → length (pinsOf (pin crew chamber ∷ rest) crew) ≡ length (pinsOf rest crew) + 1
-  unfolding pinsOf pinned stands
+  -- a pin of its own: it has it, and every other as before
+  pub now-pinned : (chamber : ℕ) (rest : List ℕ) → pinned (pin crew chamber ∷ rest) crew chamber ≡ true
+  unfolding pinned stands
+  now-pinned chamber rest = ap (λ (b : Bool). b || stands (pin crew chamber) rest) (eq-eqb (pin crew chamber) (pin crew chamber) refl)
+
+  pub others-pinned : (chamber : ℕ) (rest : List ℕ) (j : ℕ) → (j ≡ chamber → ⊥) → pinned rest crew j ≡ pinned (pin crew chamber ∷ rest) crew j
+  unfolding pinned stands
+  others-pinned chamber rest j other = sym (ap (λ (b : Bool). b || stands (pin crew j) rest) (ne-eqb (pin crew chamber) (pin crew j) (λ e. other (sym (same-chamber crew chamber j e)))))
+
+  pub not-yet : (chamber : ℕ) (rest : List ℕ) → T (not (stands (pin crew chamber) rest)) → pinned rest crew chamber ≡ false
+  unfolding pinned
+  not-yet chamber rest n = false-of (stands (pin crew chamber) rest) n
+
+  -- and where it had it not, the listing has one more
+  pub own-listed : (chamber : ℕ) (rest : List ℕ) → chamber < 1000 → T (not (stands (pin crew chamber) rest)) → length (pinsOf (pin crew chamber ∷ rest) crew) ≡ length (pinsOf rest crew) + 1
+  unfolding pinsOf
   own-listed chamber rest h n =
-      one-more-place 1000 (pinned rest crew) (pinned (pin crew chamber ∷ rest) crew) chamber
-      (λ j other. sym (ap (λ (b : Bool). b || stands (pin crew j) rest) (ne-eqb (pin crew chamber) (pin crew j) (λ e. other (sym (same-chamber crew chamber j e))))))
-      (false-of (stands (pin crew chamber) rest) n)
-      (ap (λ (b : Bool). b || stands (pin crew chamber) rest) (eq-eqb (pin crew chamber) (pin crew chamber) refl))
+      one-more-place 1000 (pinned rest crew) (pinned (pin crew chamber ∷ rest) crew) chamber (others-pinned chamber rest) (not-yet chamber rest n) (now-pinned chamber rest)
       ∙ ap (λ (b : Bool). length (places 1000 (pinned rest crew)) + cond b 1 0) (lt-ltb chamber 1000 h)
 
   held-other : (w : ℕ) (rest : List ℕ) → (crewOf w ≡ crew → ⊥) → held crew (w ∷ rest) ≡ held crew rest
@@ -115,6 +125,6 @@ module _ (crew : ℕ) where
 
   pub as-many-as-held : Crew crew → (table : List ℕ) → T (wordsFit table) → T (eachOnce table) → length (pinsOf table crew) ≡ held crew table
   unfolding wordsFit held
-  as-many-as-held k [] t o = none-listed
+  as-many-as-held k [] t o = ap length none-listed
   as-many-as-held k (w ∷ rest) t o =
       grow-alike k w rest (fitting (and-left (wordFits w) (wordsFit rest) t)) o (as-many-as-held k rest (and-right (wordFits w) (wordsFit rest) t) (rest-once w rest o))

@@ -2,8 +2,11 @@ pub mod Words
 pub mod Changes
 pub mod Once
 pub mod Counts
+pub mod Behind
 pub mod Sound
 pub mod Granted
 pub mod Folds
 pub mod Found
-pub mod Least
+pub mod Marks
+pub mod Room
+pub mod Laying

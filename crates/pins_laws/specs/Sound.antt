@@ -10,7 +10,7 @@ use lib.Dec.{T, leb, eqb, leb→le, le→leb, T-not}
 use borrow.Author.Tests.{ne-eqb, eqb-true}
 use Rattle.laws.specs.Tests.{true-of, to-T, Four, four-of, of-four}
 use Rattle.pins_rules.specs.Table.{pin, crewOf, pinned, stands, held, pinsOf, empty, wordFits, wordsFit, eachOnce, tableFits, withPin, withoutPin}
-use Rattle.pins_laws.specs.Words.{Crew, crew-of-pin, same-chamber, pin-not-free, none-fits, pin-fits}
+use Rattle.pins_laws.specs.Words.{Crew, crew-one, crew-two, by-crew, crew-of-pin, other-pin, pin-not-free, none-fits, pin-fits}
 use Rattle.pins_laws.specs.Changes.{Changed, changed, changed-length, stands-now, others-stand, held-changed, words-fit}
 use Rattle.pins_laws.specs.Once.{once-added, once-removed, gone}
 use Rattle.pins_laws.specs.Counts.{finds-a-place}
@@ -20,19 +20,6 @@ pub record Sound (table : List ℕ) : Type 0 where
   pub words : T (wordsFit table)
   pub once : T (eachOnce table)
   pub few : {crew : ℕ} → Crew crew → held crew table ≤ 32
-
-crew-one : Crew 1
-crew-one = record { least = omega arith; most = omega arith }
-
-crew-two : Crew 2
-crew-two = record { least = omega arith; most = omega arith }
-
--- a crew is 1 or 2
-by-crew : (P : ℕ → Type 0) → P 1 → P 2 → (crew : ℕ) → Crew crew → P crew
-by-crew P one two zero k = absurd (omega (arith, k .least))
-by-crew P one two (suc zero) k = one
-by-crew P one two (suc (suc zero)) k = two
-by-crew P one two (suc (suc (suc n))) k = absurd (omega (arith, k .most))
 
 pub sound : (table : List ℕ) → length table ≡ 64 → T (tableFits table) → Sound table
 unfolding tableFits
@@ -56,12 +43,6 @@ unfolding empty tableFits wordsFit wordFits eachOnce held crewOf stands
 empty-sound = sound empty refl tt
 
 -- ---- a pin comes
-
--- another crew's pin, or another chamber's, is another word
-other-pin : {crew chamber whose which : ℕ} → chamber < 1000 → which < 1000 → (crew ≡ whose → chamber ≡ which → ⊥) → pin crew chamber ≡ pin whose which → ⊥
-other-pin {crew} {chamber} {whose} {which} h l other e =
-    let same : crew ≡ whose = sym (crew-of-pin crew {chamber = chamber} (omega arith)) ∙ ap crewOf e ∙ crew-of-pin whose {chamber = which} (omega arith) in
-    other same (same-chamber whose chamber which (subst (λ (c : ℕ). pin c chamber ≡ pin whose which) same e))
 
 -- what changed: the table is sound, this crew has the pin or has it not, and any other pin stands where it stood
 pub record Left (table : List ℕ) (crew chamber : ℕ) (now : Bool) (table′ : List ℕ) : Type 0 where

@@ -1,13 +1,13 @@
 -- The words of a pin table: a pin's crew and chamber come back, pins that are equal are one crew's on one chamber, and what a word that fits is.
-use Prim.Native.Nat.{ℕ, _+_, _*_, _≤_, _<_}
-use mathlib.Core.Path.{_≡_, sym, _∙_, subst}
+use Prim.Native.Nat.{ℕ, zero, suc, _+_, _*_, _≤_, _<_}
+use mathlib.Core.Path.{_≡_, refl, sym, _∙_, ap, ap₂, subst}
 use mathlib.Core.Bool.{Bool, true, false, cond, not, _&&_, _||_}
 use mathlib.Core.Logic.{_⊎_, inl, inr}
 use native.Mathlib.Nat.{div-add-mod'}
 use native.Mathlib.Omega.{arith}
 use lib.Arith.{digits-div, digits-mod}
 use lib.Dec.{T, leb, ltb, eqb, leb→le, le→leb, ltb→lt, lt→ltb, eqb→eq}
-use borrow.Author.Tests.{eq-eqb}
+use borrow.Author.Tests.{eq-eqb, ne-eqb, eqb-true, eqb-false}
 use Rattle.laws.specs.Tests.{and-both, and-left, and-right}
 use Rattle.pins_rules.specs.Table.{pin, crewOf, chamberOf, isCrew, isChamber, wordFits}
 
@@ -55,9 +55,36 @@ crew-is {crew} t = record { least = leb→le 1 crew (and-left (leb 1 crew) _ t);
 pub is-crew : {crew : ℕ} → Crew crew → T (isCrew crew)
 is-crew {crew} k = and-both (leb 1 crew) (leb crew 2) (le→leb 1 crew (k .least)) (le→leb crew 2 (k .most))
 
+pub crew-one : Crew 1
+crew-one = record { least = omega arith; most = omega arith }
+
+pub crew-two : Crew 2
+crew-two = record { least = omega arith; most = omega arith }
+
+-- a crew is 1 or 2
+pub by-crew : (P : ℕ → Type 0) → P 1 → P 2 → (crew : ℕ) → Crew crew → P crew
+by-crew P one two zero k = absurd (omega (arith, k .least))
+by-crew P one two (suc zero) k = one
+by-crew P one two (suc (suc zero)) k = two
+by-crew P one two (suc (suc (suc n))) k = absurd (omega (arith, k .most))
+
 pub pin-not-free : {crew : ℕ} (chamber : ℕ) → Crew crew → pin crew chamber ≡ 0 → ⊥
 unfolding pin
 pin-not-free chamber k e = omega arith
+
+-- another crew's pin, or another chamber's, is another word
+pub other-pin : {crew chamber whose which : ℕ} → chamber < 1000 → which < 1000 → (crew ≡ whose → chamber ≡ which → ⊥) → pin crew chamber ≡ pin whose which → ⊥
+other-pin {crew} {chamber} {whose} {which} h l other e =
+    let same : crew ≡ whose = sym (crew-of-pin crew {chamber = chamber} (omega arith)) ∙ ap crewOf e ∙ crew-of-pin whose {chamber = which} (omega arith) in
+    other same (same-chamber whose chamber which (subst (λ (c : ℕ). pin c chamber ≡ pin whose which) same e))
+
+pub same-pin : (crew whose : ℕ) {chamber which : ℕ} → chamber < 1000 → which < 1000 → eqb (pin crew chamber) (pin whose which) ≡ (eqb crew whose && eqb chamber which)
+same-pin crew whose {chamber} {which} h l = go (eqb crew whose) (eqb chamber which) refl refl
+  where
+    go : (a b : Bool) → eqb crew whose ≡ a → eqb chamber which ≡ b → eqb (pin crew chamber) (pin whose which) ≡ (a && b)
+    go true true e f = eq-eqb (pin crew chamber) (pin whose which) (ap₂ pin (eqb-true crew whose e) (eqb-true chamber which f))
+    go true false e f = ne-eqb (pin crew chamber) (pin whose which) (other-pin h l (λ _ z. eqb-false chamber which f z))
+    go false b e f = ne-eqb (pin crew chamber) (pin whose which) (other-pin h l (λ z _. eqb-false crew whose e z))
 
 -- ---- words that fit
 

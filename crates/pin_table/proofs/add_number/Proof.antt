@@ -30,7 +30,7 @@ unless-requires : tie.Need-unless-requires
 unless-requires c κs = search needs
 
 held-requires : tie.Need-held-requires
-held-requires c κs = search needs
+held-requires c κs = let e = c .before .before .before in omega (arith, chamber-granted (e .before .before .before .args .table .now) (e .before .before .before .args .crew) (e .before .before .before .args .chamber) (sym (e .before .chamber-number .ensures) ∙ e .if1 .left) .is-sound .sized)
 
 unless-requires-2 : tie.Need-unless-requires-2
 unless-requires-2 c κs = search needs

@@ -1,4 +1,5 @@
 -- `crew_number`: each number where its test is the first that does not pass.
+use native.Mathlib.Omega.{arith}
 use mathlib.Core.Path.{sym, _∙_}
 use borrow.Author.Tests.{not-true, not-false}
 use Rattle.rules.specs.Site.{firstRefusal}
@@ -12,7 +13,7 @@ unfolding crewNumber firstRefusal
 returns c = rw (not-true (c .before .before .args .lengths) (c .if1 .taken))
 
 table-fits-requires : tie.Need-table-fits-requires
-table-fits-requires c κs = search needs
+table-fits-requires c κs = omega (arith, c .before .before .pre (not-false (c .before .before .args .lengths) (c .if1 .left)))
 
 returns-2 : tie.Need-returns-2
 unfolding crewNumber firstRefusal

@@ -1,64 +1,65 @@
--- `each_once`: one turn joins to the tests before that of one word, which looks at the words behind it.
-use Prim.Native.Nat.{_-_, _+_}
-use mathlib.Core.Path.{ap, _∙_}
-use mathlib.Core.Bool.{Bool, not, _&&_, _||_}
+-- `each_once`: one turn marks the word before those that are marked, and ends where that pin stands among them.
+use mathlib.Core.Path.{sym, _∙_, ap, subst}
+use mathlib.Core.List.{List}
+use Prim.Native.Nat.{ℕ, _-_}
 use native.Mathlib.Omega.{arith}
-use borrow.Author.Needs.{needs}
-use lib.ListN.{length, getD}
-use lib.Dec.{eqb}
-use Rattle.pins_rules.specs.Table.{stands as Table·stands, eachOnce}
-use Rattle.laws.specs.Parts.{back-is}
-use Rattle.pins_laws.specs.Folds.{Folding, once-fold, fold-none, fold-more, fold-all}
+use borrow.Author.Tests.{not-true, not-false}
+use lib.ListN.{length, length-replicate}
+use Rattle.pins_laws.specs.Marks.{Marking, mark-none, mark-more, mark-twice, mark-all, mark-length, can-be-marked}
 use Rattle.pin_table.proofs.each_once.Statement.{statement}
 use Rattle.pin_table.proofs.each_once.Tie as tie
 
 abbrev Inv-loop : tie.InvT-loop
-Inv-loop table once₀ k₀ k-end once k = Folding eachOnce _&&_ table once k
+Inv-loop table marks₀ k₀ marks k = Marking table marks k
 
 abbrev μ-loop : tie.MeasureT-loop
-μ-loop table once₀ k₀ k-end once k = length table - k
+μ-loop table marks₀ k₀ marks k = k
 
 loop-holds : tie.Need-loop-holds Inv-loop μ-loop
-loop-holds c = fold-none once-fold
+loop-holds c = let o = c .before .before in subst (λ (l : List ℕ). Marking (o .args .table .now) l (length (o .args .table .now))) (sym (o .pre .clear)) mark-none
 
-mul-word : tie.Need-mul-word Inv-loop μ-loop
-mul-word c = omega arith
+sub-k : tie.Need-sub-k Inv-loop μ-loop
+sub-k c = omega arith
 
-shared-slice-read-word : tie.Need-shared-slice-read-word Inv-loop μ-loop
-shared-slice-read-word c = omega arith
+mul-mark : tie.Need-mul-mark Inv-loop μ-loop
+mul-mark c = omega arith
 
-add-behind : tie.Need-add-behind Inv-loop μ-loop
-add-behind c = omega arith
+shared-slice-read-mark : tie.Need-shared-slice-read-mark Inv-loop μ-loop
+shared-slice-read-mark c = omega arith
 
-mul-stands : tie.Need-mul-stands Inv-loop μ-loop
-mul-stands c = omega arith
+mark-requires : tie.Need-mark-requires Inv-loop μ-loop
+mark-requires c κs = let at = c .before .before .before in can-be-marked (at .before .before .before .pre .fit) (at .loop .inv) (c .before .before .loop-test .taken)
 
-sub-stands : tie.Need-sub-stands Inv-loop μ-loop
-sub-stands c = omega arith
+same-length : tie.Need-same-length Inv-loop μ-loop
+same-length c =
+    let m = c .before .before .before in
+    let at = m .before .before .before .before in
+    let o = at .before .before .before in
+    mark-length (at .loop .inv) (m .mark .ensures) (o .pre .clear)
 
-part-stands-start : tie.Need-part-stands-start Inv-loop μ-loop
-part-stands-start c = search needs
-
-part-stands-end : tie.Need-part-stands-end Inv-loop μ-loop
-part-stands-end c = search needs
-
-stands-requires : tie.Need-stands-requires Inv-loop μ-loop
-stands-requires c κs = search needs
-
-add-k : tie.Need-add-k Inv-loop μ-loop
-add-k c = omega arith
+returns : tie.Need-returns Inv-loop μ-loop
+returns c =
+    let m = c .before .before .before in
+    let at = m .before .before .before .before in
+    let o = at .before .before .before in
+    mark-twice (o .pre .fit) (at .loop .inv) (m .before .before .before .loop-test .taken) (sym (m .mark .ensures .says) ∙ not-true _ (c .if1 .taken))
 
 loop-less : tie.Need-loop-less Inv-loop μ-loop
 loop-less c = omega arith
 
 loop-again : tie.Need-loop-again Inv-loop μ-loop
 loop-again c =
-    let at = c .before .before .before .before in
-    let word = getD (at .before .before .args .table .now) (at .loop .k) 0 in
-    fold-more once-fold (at .loop .inv) (c .before .before .before .loop-test .taken) (ap (λ (b : Bool). at .loop .once && (eqb word 0 || not b)) (c .stands .ensures ∙ ap (Table·stands word) (back-is (at .loop .k + 1) (at .before .before .args .table .now))))
+    let m = c .before .before .before in
+    let at = m .before .before .before .before in
+    let o = at .before .before .before in
+    let marked = mark-more (o .pre .fit) (at .loop .inv) (m .before .before .before .loop-test .taken) (sym (m .mark .ensures .says) ∙ not-false _ (c .if1 .left)) in
+    subst (λ (l : List ℕ). Marking (o .args .table .now) l (at .loop .k - 1)) (sym (m .mark .ensures .leaves)) marked
 
-returns : tie.Need-returns Inv-loop μ-loop
-returns c = fold-all once-fold (c .before .loop .inv) (c .loop-test .left)
+same-length-2 : tie.Need-same-length-2 Inv-loop μ-loop
+same-length-2 c = let o = c .before .before .before .before in c .before .loop .inv .marks-are .sized ∙ sym (ap length (o .pre .clear) ∙ length-replicate {A = ℕ} 1000 0)
+
+returns-2 : tie.Need-returns-2 Inv-loop μ-loop
+returns-2 c = mark-all (c .before .loop .inv) (c .loop-test .left)
 
 pub each-once-spec : {M : Type 1} → statement M
 each-once-spec =
@@ -67,15 +68,13 @@ each-once-spec =
     Inv-loop
     μ-loop
     loop-holds
-    mul-word
-    shared-slice-read-word
-    add-behind
-    mul-stands
-    sub-stands
-    part-stands-start
-    part-stands-end
-    stands-requires
-    add-k
+    sub-k
+    mul-mark
+    shared-slice-read-mark
+    mark-requires
+    same-length
+    returns
     loop-less
     loop-again
-    returns)
+    same-length-2
+    returns-2)

@@ -1,4 +1,7 @@
 -- `pins_list`: refused, and the list stays; or done, and the crew's pins are laid at its front.
+use lib.ListN.{length}
+use lib.Dec.{eqb, eqb→eq}
+use Rattle.laws.specs.Tests.{to-T, and-left}
 use mathlib.Core.Path.{sym, _∙_}
 use native.Mathlib.Omega.{arith}
 use Rattle.pins_rules.specs.Calls.{listNumber}
@@ -10,7 +13,7 @@ use Rattle.pins.proofs.pins_list.Statement.{statement}
 use Rattle.pins.proofs.pins_list.Tie as tie
 
 crew-number-requires : tie.Need-crew-number-requires
-crew-number-requires c κs = search needs
+crew-number-requires c κs = λ e. eqb→eq (length (c .before .before .args .table .now)) 64 (and-left (eqb (length (c .before .before .args .table .now)) 64) _ (to-T e))
 
 returns : tie.Need-returns
 unfolding listNumber
