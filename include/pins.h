@@ -35,9 +35,9 @@
  * that binds memcpy and memset only when they are first called.
  *
  *                      any input
- *     pins_add             1,000
- *     pins_remove          1,000
- *     pins_list            1,000
+ *     pins_add             2,000
+ *     pins_remove          2,000
+ *     pins_list            2,000
  */
 #ifndef PINS_H
 #define PINS_H

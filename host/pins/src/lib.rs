@@ -25,9 +25,9 @@
 //!
 //! | call | any input |
 //! |---|---|
-//! | [`calls::add`] | 1,000 |
-//! | [`calls::remove`] | 1,000 |
-//! | [`calls::list`] | 1,000 |
+//! | [`calls::add`] | 2,000 |
+//! | [`calls::remove`] | 2,000 |
+//! | [`calls::list`] | 2,000 |
 //!
 //! A [`PinTable`] takes as much as the calls that it makes, and 1,000 for the list of a crew's pins.
 //!
