@@ -55,6 +55,7 @@ pub mod Rising
 pub mod Asked
 pub mod Fronts
 pub mod Listings
+pub mod PutIn
 pub mod SignTests
 pub mod Swapped
 pub mod Floats

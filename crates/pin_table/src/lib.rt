@@ -1,12 +1,9 @@
-// The pin table: what its words are, what every call asks of it, and how one place changes.
+// The pin table: what its words are, whether it passes, and how one place changes.
 ghost use mathlib.Core.Path.{_≡_};
 ghost use Prim.Native.Nat.{_≤_, _<_};
 ghost use lib.ListN.{length, replicate};
-ghost use mathlib.Core.Bool.{true};
 ghost use Rattle.pins_rules.specs.Table.{pin as Table·pin, crewOf, chamberOf, isCrew, isChamber, wordFits, stands as Table·stands, wordsFit, eachOnce, held as Table·held, tableFits, firstChanged};
-ghost use Rattle.rules.specs.Site.{firstRefusal};
-ghost use Rattle.pins_rules.specs.Calls.{unless as Calls·unless, crewNumber, chamberNumber, addNumber, removeNumber};
-ghost use Rattle.pins_laws.specs.Found.{FirstPlace};
+ghost use Rattle.pins_laws.specs.FirstPlace.{FirstPlace};
 ghost use Rattle.pins_laws.specs.Marks.{Markable, MarkedBy, Unmarked};
 
 // ---- Words
@@ -31,13 +28,13 @@ pub fn chamber_of(word: u32) -> u32
     word % 65536
 }
 
-fn is_crew(crew: u32) -> bool
+pub fn is_crew(crew: u32) -> bool
     ensures { λ r. ⌜ r ≡ isCrew crew ⌝ }
 {
     (1 <= crew) & (crew <= 2)
 }
 
-fn is_chamber(chamber: u32) -> bool
+pub fn is_chamber(chamber: u32) -> bool
     ensures { λ r. ⌜ r ≡ isChamber chamber ⌝ }
 {
     chamber < 1000
@@ -55,7 +52,7 @@ fn word_fits(word: u32) -> bool
 // ---- All words
 
 // Whether a word stands among these.
-fn stands(words: &[u32], word: u32) -> bool
+pub fn stands(words: &[u32], word: u32) -> bool
     ensures { λ r. ⌜ r ≡ Table·stands word (now (words .entry)) ⌝ }
 {
     let mut found = false;
@@ -76,7 +73,7 @@ fn words_fit(table: &[u32]) -> bool
 }
 
 // How many pins a crew has.
-fn held(table: &[u32], crew: u32) -> u32
+pub fn held(table: &[u32], crew: u32) -> u32
     requires { ⌜ length (now table) ≤ 64 ⌝ }
     ensures { λ r. ⌜ r ≡ Table·held crew (now (table .entry)) ⌝ }
 {
@@ -128,7 +125,7 @@ fn each_once(table: &[u32], marks: &mut [u8]) -> bool
 }
 
 // Whether a table of 64 words passes. All of it is looked at, the other crew's pins too.
-fn table_fits(table: &[u32]) -> bool
+pub fn table_fits(table: &[u32]) -> bool
     requires { ⌜ length (now table) ≤ 64 ⌝ }
     ensures { λ r. ⌜ r ≡ tableFits (now (table .entry)) ⌝ }
 {
@@ -140,77 +137,6 @@ fn table_fits(table: &[u32]) -> bool
     let one = held(table, 1) <= 32;
     let two = held(table, 2) <= 32;
     once & one & two
-}
-
-// ---- The numbers, in document 02's order
-
-// A refusal's number, unless its test passes.
-fn unless(passes: bool, number: u32) -> u32
-    ensures { λ r. ⌜ r ≡ Calls·unless passes number ⌝ }
-{
-    if passes {
-        return 0;
-    }
-    number
-}
-
-// The first of two numbers that refuses.
-fn first_refusal(number: u32, later: u32) -> u32
-    ensures { λ r. ⌜ r ≡ firstRefusal number later ⌝ }
-{
-    if number != 0 {
-        return number;
-    }
-    later
-}
-
-// What every call asks. No word is read where a length is wrong.
-pub fn crew_number(lengths: bool, table: &[u32], crew: u32) -> u32
-    requires { ⌜ (lengths ≡ true → length (now table) ≡ 64) ⌝ }
-    ensures { λ r. ⌜ r ≡ crewNumber lengths (now (table .entry)) crew ⌝ }
-{
-    if !lengths {
-        return 2;
-    }
-    if !table_fits(table) {
-        return 3;
-    }
-    if !is_crew(crew) {
-        return 11;
-    }
-    0
-}
-
-fn chamber_number(table: &[u32], crew: u32, chamber: u32) -> u32
-    ensures { λ r. ⌜ r ≡ chamberNumber (now (table .entry)) crew chamber ⌝ }
-{
-    let number = crew_number(table.len() == 64, table, crew);
-    if number != 0 {
-        return number;
-    }
-    unless(is_chamber(chamber), 12)
-}
-
-pub fn add_number(table: &[u32], crew: u32, chamber: u32) -> u32
-    ensures { λ r. ⌜ r ≡ addNumber (now (table .entry)) crew chamber ⌝ }
-{
-    let number = chamber_number(table, crew, chamber);
-    if number != 0 {
-        return number;
-    }
-    let pinned = unless(!stands(table, pin(crew, chamber)), 13);
-    let full = unless(held(table, crew) < 32, 14);
-    first_refusal(pinned, full)
-}
-
-pub fn remove_number(table: &[u32], crew: u32, chamber: u32) -> u32
-    ensures { λ r. ⌜ r ≡ removeNumber (now (table .entry)) crew chamber ⌝ }
-{
-    let number = chamber_number(table, crew, chamber);
-    if number != 0 {
-        return number;
-    }
-    unless(stands(table, pin(crew, chamber)), 13)
 }
 
 // ---- One place changes

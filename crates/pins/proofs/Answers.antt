@@ -1,8 +1,7 @@
 -- What a call on the pin table answers and leaves: refused, as lent; done, what its definition says.
 use Prim.Native.Nat.{ℕ}
-use mathlib.Core.Path.{_≡_, refl, sym, _∙_, ap, ap₂}
-use mathlib.Core.List.{List, _++_}
-use lib.ListN.{length, drop}
+use mathlib.Core.Path.{_≡_, sym, _∙_, ap₂}
+use mathlib.Core.List.{List}
 use Rattle.laws.specs.Outcomes.{if-done, if-refused}
 use Rattle.laws.specs.Listings.{Listed}
 use Rattle.pins_rules.specs.declared.Listing.{Listing}

@@ -8,7 +8,7 @@ use pins_rules::Listing;
 pub extern "C" fn pins_add(table: &mut [u32], crew: u32, chamber: u32) -> u32
     ensures { λ r. ⌜ AddContract (now (table .entry)) crew chamber r (now (table .exit)) ⌝ }
 {
-    let number = pin_table::add_number(table, crew, chamber);
+    let number = pin_numbers::add_number(table, crew, chamber);
     if number != 0 {
         return number;
     }
@@ -21,7 +21,7 @@ pub extern "C" fn pins_add(table: &mut [u32], crew: u32, chamber: u32) -> u32
 pub extern "C" fn pins_remove(table: &mut [u32], crew: u32, chamber: u32) -> u32
     ensures { λ r. ⌜ RemoveContract (now (table .entry)) crew chamber r (now (table .exit)) ⌝ }
 {
-    let number = pin_table::remove_number(table, crew, chamber);
+    let number = pin_numbers::remove_number(table, crew, chamber);
     if number != 0 {
         return number;
     }
@@ -35,7 +35,7 @@ pub extern "C" fn pins_list(table: &[u32], crew: u32, found: &mut [u32]) -> List
     ensures { λ r. ⌜ ListContract (now (table .entry)) crew (now (found .entry)) r (now (found .exit)) ⌝ }
 {
     let lengths = (table.len() == 64) & (found.len() == 32);
-    let number = pin_table::crew_number(lengths, table, crew);
+    let number = pin_numbers::crew_number(lengths, table, crew);
     if number != 0 {
         return Listing { number, count: 0 };
     }

@@ -1,16 +1,15 @@
 -- A table in which one place got another word: what still stands in it, how many pins each crew has, and that it still passes.
 use Prim.Native.Nat.{ℕ, suc, _+_}
-use mathlib.Core.Path.{_≡_, refl, sym, _∙_, ap, ap₂, subst}
-use mathlib.Core.Bool.{Bool, true, false, cond, not, _&&_, _||_}
-use mathlib.Core.Logic.{_⊎_, inl, inr}
+use mathlib.Core.Path.{_≡_, refl, sym, ap, subst}
+use mathlib.Core.Bool.{Bool, true, false, cond, _||_}
 use mathlib.Core.List.{List, [], _∷_}
 use native.Mathlib.Omega.{arith}
 use lib.ListN.{length}
-use lib.Dec.{T, eqb, eqb→eq, T-not, not-T}
+use lib.Dec.{T, eqb, eqb→eq}
 use borrow.Author.Tests.{eq-eqb, ne-eqb}
-use Rattle.laws.specs.Tests.{true-of, false-of, to-T, and-both, and-left, and-right}
-use Rattle.pins_rules.specs.Table.{crewOf, stands, held, wordFits, wordsFit, eachOnce, firstChanged}
-use Rattle.pins_laws.specs.Words.{or-cases, or-left, or-right}
+use Rattle.laws.specs.Tests.{to-T, and-both, and-left, and-right}
+use Rattle.pins_rules.specs.Table.{crewOf, stands, held, wordFits, wordsFit, firstChanged}
+use Rattle.pins_laws.specs.Words.{or-left, or-right}
 
 -- one place had the word `from` and has the word `to`, all others have what they had
 pub data Changed (from to : ℕ) : List ℕ → List ℕ → Type 0 where

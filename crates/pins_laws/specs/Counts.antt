@@ -1,18 +1,16 @@
 -- How many pins a table has: those of both crews and the free places are all of it, so that a crew with room finds a place; and a crew's listing is as long as
 -- the crew has pins.
 use Prim.Native.Nat.{ℕ, zero, suc, _+_, _≤_, _<_}
-use mathlib.Core.Path.{_≡_, refl, sym, _∙_, ap, ap₂, subst}
-use mathlib.Core.Bool.{Bool, true, false, cond, not, _&&_, _||_}
-use mathlib.Core.Logic.{_⊎_, inl, inr}
-use mathlib.Core.List.{List, [], _∷_, _++_}
-use native.Mathlib.Nat.{eq-or-lt-of-le}
+use mathlib.Core.Path.{_≡_, refl, sym, _∙_, ap, subst}
+use mathlib.Core.Bool.{Bool, true, false, cond, not, _||_}
+use mathlib.Core.List.{List, [], _∷_}
 use native.Mathlib.Omega.{arith}
-use lib.ListN.{length, length-append}
-use lib.Dec.{T, ltb, eqb, eqb→eq, not-T, T-not}
+use lib.ListN.{length}
+use lib.Dec.{T, eqb}
 use borrow.Author.Tests.{eq-eqb, ne-eqb, lt-ltb, eqb-true, eqb-false}
-use Rattle.laws.specs.Tests.{true-of, false-of, to-T, and-both, and-left, and-right}
+use Rattle.laws.specs.Tests.{false-of, and-left, and-right}
 use Rattle.rules.specs.Search.{places}
-use Rattle.laws.specs.Listings.{places-same, one-more-place}
+use Rattle.laws.specs.PutIn.{places-same, one-more-place}
 use Rattle.laws.specs.Rising.{places-empty}
 use Rattle.pins_rules.specs.Table.{pin, crewOf, pinned, stands, held, pinsOf, wordFits, wordsFit, eachOnce}
 use Rattle.pins_laws.specs.Words.{Crew, Fitting, none, one, fitting, crew-of-pin, pin-not-free, same-chamber, or-right}

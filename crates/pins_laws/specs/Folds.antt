@@ -1,7 +1,7 @@
 -- What is gathered over the words of a table, from the last word back in its definition and from the first on in a loop: one law for all of them.
 use Prim.Native.Nat.{ℕ, suc, _+_, _≤_, _<_, zero-le}
 use mathlib.Core.Path.{_≡_, refl, sym, _∙_, ap}
-use mathlib.Core.Bool.{Bool, true, false, cond, not, _&&_, _||_, and-true, and-assoc, or-false, or-assoc}
+use mathlib.Core.Bool.{true, false, cond, _&&_, _||_, and-true, and-assoc, or-false, or-assoc}
 use mathlib.Core.List.{List, [], _∷_}
 use native.Mathlib.Nat.{add-zero, zero-add, add-assoc}
 use native.Mathlib.Numerals.{add-one}
@@ -9,7 +9,7 @@ use native.Mathlib.Omega.{arith}
 use lib.ListN.{length, getD, drop, drop-of-length-le}
 use lib.Seq.{drop-cons}
 use lib.Dec.{eqb}
-use Rattle.pins_rules.specs.Table.{crewOf, stands, held, wordFits, wordsFit, eachOnce}
+use Rattle.pins_rules.specs.Table.{crewOf, stands, held, wordFits, wordsFit}
 
 -- `f` joins what `part` gives of a word and the words behind it to what it gives of those behind
 pub record Fold {X : Type 0} (f : List ℕ → X) (start : X) (join : X → X → X) (part : ℕ → List ℕ → X) : Type 0 where
@@ -18,7 +18,7 @@ pub record Fold {X : Type 0} (f : List ℕ → X) (start : X) (join : X → X �
   pub joins : (w : ℕ) (rest : List ℕ) → f (w ∷ rest) ≡ join (part w rest) (f rest)
   pub grouped : (x y z : X) → join (join x y) z ≡ join x (join y z)
 
--- ---- the four of a table
+-- ---- three of a table
 
 pub stands-fold : (word : ℕ) → Fold (stands word) false _||_ (λ w rest. eqb w word)
 unfolding stands
@@ -27,10 +27,6 @@ stands-fold word = record { begins = λ x. refl; ends = or-false; joins = λ w r
 pub words-fold : Fold wordsFit true _&&_ (λ w rest. wordFits w)
 unfolding wordsFit
 words-fold = record { begins = λ x. refl; ends = and-true; joins = λ w rest. refl; grouped = and-assoc }
-
-pub once-fold : Fold eachOnce true _&&_ (λ w rest. eqb w 0 || not (stands w rest))
-unfolding eachOnce
-once-fold = record { begins = λ x. refl; ends = and-true; joins = λ w rest. refl; grouped = and-assoc }
 
 pub held-fold : (crew : ℕ) → Fold (held crew) 0 _+_ (λ w rest. cond (eqb (crewOf w) crew) 1 0)
 unfolding held

@@ -1,14 +1,14 @@
 -- What the numbers of the calls on a pin table say: of a sound table, and where they are 0.
 use Prim.Native.Nat.{ℕ, suc, _<_}
-use mathlib.Core.Path.{_≡_, refl, sym, _∙_, ap}
-use mathlib.Core.Bool.{Bool, true, false, cond, not, _&&_}
+use mathlib.Core.Path.{_≡_, refl, _∙_, ap}
+use mathlib.Core.Bool.{Bool, true, false, not, _&&_}
 use mathlib.Core.List.{List}
 use native.Mathlib.Nat.{suc-ne-zero}
 use lib.ListN.{length}
-use lib.Dec.{T, ltb, eqb, eqb→eq, ltb→lt}
+use lib.Dec.{ltb, eqb, eqb→eq}
 use borrow.Author.Tests.{eq-eqb, ltb-true, not-true, eqb-true}
 use Rattle.rules.specs.Site.{firstRefusal}
-use Rattle.laws.specs.Outcomes.{first-passed, both-passed}
+use Rattle.laws.specs.Outcomes.{both-passed}
 use Rattle.laws.specs.Tests.{to-T, and-left, and-right}
 use Rattle.pins_rules.specs.Table.{isCrew, isChamber, pinned, held, tableFits}
 use Rattle.pins_rules.specs.Calls.{unless, crewNumber, chamberNumber, addNumber, removeNumber, listNumber}

@@ -6,7 +6,7 @@ pub mod Behind
 pub mod Sound
 pub mod Granted
 pub mod Folds
-pub mod Found
+pub mod FirstPlace
 pub mod Marks
 pub mod Room
 pub mod Laying

@@ -1,6 +1,6 @@
 -- Marks of the pins that stand among some words, one byte for each chamber: 1 for crew 1, 2 for crew 2, 3 for both. A loop from the last word of a table to the
 -- first marks each, and so tells a pin that is there twice.
-use Prim.Native.Nat.{ℕ, zero, suc, _+_, _-_, _≤_, _<_}
+use Prim.Native.Nat.{ℕ, _+_, _-_, _≤_, _<_}
 use mathlib.Core.Path.{_≡_, refl, sym, _∙_, ap, ap₂, subst}
 use mathlib.Core.Bool.{Bool, true, false, cond, not, _&&_, _||_, and-true, and-false}
 use mathlib.Core.List.{List, [], _∷_}
@@ -11,7 +11,7 @@ use lib.Seq.{set-getD, getD-set-same, getD-set-other, drop-length}
 use lib.Bits.{bitAnd, bitOr, and-zero-r, or-zero-r}
 use lib.Dec.{T, eqb, not-T}
 use borrow.Author.Tests.{eq-eqb, ne-eqb, eqb-true, eqb-false}
-use Rattle.laws.specs.Tests.{to-T, true-of, false-of, and-both, and-left, and-right}
+use Rattle.laws.specs.Tests.{to-T, true-of, false-of, and-both, and-left}
 use Rattle.pins_rules.specs.Table.{pin, crewOf, chamberOf, stands, wordsFit, eachOnce}
 use Rattle.pins_laws.specs.Words.{Crew, Fitting, none, one, crew-of-pin, chamber-of-pin, crew-one, crew-two, by-crew, same-pin, pin-not-free}
 use Rattle.pins_laws.specs.Behind.{one-before, words-behind, once-behind, first-fits}

@@ -1,12 +1,12 @@
 -- A table in which no pin stands twice: so it stays where a new pin comes into a free place, and where a pin goes, which then stands there no more.
 use Prim.Native.Nat.{ℕ}
-use mathlib.Core.Path.{_≡_, refl, sym, _∙_, ap, subst}
-use mathlib.Core.Bool.{Bool, true, false, not, _&&_, _||_}
-use mathlib.Core.Logic.{_⊎_, inl, inr}
-use mathlib.Core.List.{List, [], _∷_}
+use mathlib.Core.Path.{_≡_, refl, sym, _∙_, subst}
+use mathlib.Core.Bool.{Bool, true, false, not, _||_}
+use mathlib.Core.Logic.{inl, inr}
+use mathlib.Core.List.{List, _∷_}
 use lib.Dec.{T, eqb, eqb→eq, T-not, not-T}
 use borrow.Author.Tests.{eq-eqb, ne-eqb}
-use Rattle.laws.specs.Tests.{true-of, false-of, to-T, and-both, and-left, and-right}
+use Rattle.laws.specs.Tests.{false-of, to-T, and-both, and-left, and-right}
 use Rattle.pins_rules.specs.Table.{stands, eachOnce}
 use Rattle.pins_laws.specs.Words.{or-cases, or-left, or-right}
 use Rattle.pins_laws.specs.Changes.{Changed, here, there, stood, others-stand}

@@ -1,15 +1,15 @@
 -- A sound table: one of 64 words that passes. What an add and a remove leave of it is sound again, and each crew has the pins that it had, but for the one that
 -- came or went.
-use Prim.Native.Nat.{ℕ, zero, suc, _+_, _≤_, _<_}
-use mathlib.Core.Path.{_≡_, refl, sym, _∙_, ap, subst}
-use mathlib.Core.Bool.{Bool, true, false, cond, not, _&&_}
+use Prim.Native.Nat.{ℕ, _+_, _≤_, _<_}
+use mathlib.Core.Path.{_≡_, refl, sym, _∙_, subst}
+use mathlib.Core.Bool.{Bool, true, false, cond, not}
 use mathlib.Core.List.{List}
 use native.Mathlib.Omega.{arith}
 use lib.ListN.{length}
-use lib.Dec.{T, leb, eqb, leb→le, le→leb, T-not}
+use lib.Dec.{T, leb, eqb, leb→le, le→leb}
 use borrow.Author.Tests.{ne-eqb, eqb-true}
-use Rattle.laws.specs.Tests.{true-of, to-T, Four, four-of, of-four}
-use Rattle.pins_rules.specs.Table.{pin, crewOf, pinned, stands, held, pinsOf, empty, wordFits, wordsFit, eachOnce, tableFits, withPin, withoutPin}
+use Rattle.laws.specs.Tests.{true-of, to-T, four-of, of-four}
+use Rattle.pins_rules.specs.Table.{pin, crewOf, pinned, stands, held, empty, wordFits, wordsFit, eachOnce, tableFits, withPin, withoutPin}
 use Rattle.pins_laws.specs.Words.{Crew, crew-one, crew-two, by-crew, crew-of-pin, other-pin, pin-not-free, none-fits, pin-fits}
 use Rattle.pins_laws.specs.Changes.{Changed, changed, changed-length, stands-now, others-stand, held-changed, words-fit}
 use Rattle.pins_laws.specs.Once.{once-added, once-removed, gone}

@@ -1,16 +1,15 @@
 -- What a call on the pin table does where it is done, and whom it leaves alone.
-use Prim.Native.Nat.{ℕ, _<_}
-use mathlib.Core.Path.{_≡_, sym, _∙_, subst}
+use Prim.Native.Nat.{ℕ}
+use mathlib.Core.Path.{_≡_, sym, subst}
 use mathlib.Core.Bool.{Bool, true, false}
 use mathlib.Core.List.{List}
 use borrow.Author.Tests.{ltb-true}
-use lib.Dec.{ltb}
 use Rattle.laws.specs.Tests.{to-T}
 use Rattle.laws.specs.Outcomes.{if-done}
-use Rattle.laws.specs.Listings.{places-same}
+use Rattle.laws.specs.PutIn.{places-same}
 use Rattle.pins_rules.specs.Table.{isCrew, isChamber, pinned, pinsOf, withPin, withoutPin}
 use Rattle.pins_rules.specs.Calls.{addNumber, addTable, removeNumber, removeTable}
-use Rattle.pins_laws.specs.Words.{Crew, crew-is}
+use Rattle.pins_laws.specs.Words.{crew-is}
 use Rattle.pins_laws.specs.Sound.{Left, pin-comes, pin-goes}
 use Rattle.pins_laws.specs.Granted.{add-granted, remove-granted}
 use Rattle.pins_promises.specs.Histories.{Call, by, after}

@@ -1,7 +1,7 @@
 -- A history of calls on one pin table: what each call answers, which table it leaves, and what a history answers to one crew.
 -- Answers and tables are those that the contracts fix (pins_rules, Calls.antt), refused calls too.
 use Prim.Native.Nat.{ℕ}
-use mathlib.Core.Bool.{Bool, cond}
+use mathlib.Core.Bool.{cond}
 use mathlib.Core.List.{List, [], _∷_}
 use lib.Dec.{eqb}
 use Rattle.pins_rules.specs.declared.Listing.{Listing}

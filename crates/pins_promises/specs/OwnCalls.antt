@@ -8,7 +8,7 @@ use lib.ListN.{length, drop}
 use lib.Dec.{ltb, eqb}
 use borrow.Author.Tests.{eqb-true, eqb-false}
 use Rattle.rules.specs.Site.{firstRefusal, ifDone}
-use Rattle.laws.specs.Listings.{places-same}
+use Rattle.laws.specs.PutIn.{places-same}
 use Rattle.laws.specs.Outcomes.{first-same, if-same, if-either}
 use Rattle.pins_rules.specs.declared.Listing.{Listing}
 use Rattle.pins_rules.specs.Table.{isCrew, pinned, held, pinsOf, withPin, withoutPin}

@@ -5,7 +5,7 @@ use mathlib.Core.Path.{_≡_, refl, sym, _∙_, ap}
 use mathlib.Core.List.{List}
 use Rattle.pins_rules.specs.Table.{empty}
 use Rattle.pins_laws.specs.Sound.{empty-sound}
-use Rattle.pins_promises.specs.Histories.{Call, Answer, callsOf, answersTo}
+use Rattle.pins_promises.specs.Histories.{Call, callsOf, answersTo}
 use Rattle.pins_promises.specs.OwnCalls.{Alike, alone-from}
 -- of each public call: any two outcomes that its contract allows are equal, refused calls too
 pub use Rattle.pins_promises.specs.OneOutcome.{one-add, one-remove, one-list}

@@ -3,7 +3,7 @@ use Prim.Native.Nat.{ℕ}
 use mathlib.Core.Path.{_≡_}
 use mathlib.Core.List.{List}
 use Rattle.laws.specs.Outcomes.{if-refused}
-use Rattle.pins_rules.specs.Calls.{addNumber, addTable, removeNumber, removeTable, listNumber, listAnswer, listFound}
+use Rattle.pins_rules.specs.Calls.{addNumber, addTable, removeNumber, removeTable, listAnswer, listFound}
 
 pub add-refused : (table : List ℕ) (crew chamber : ℕ) → (addNumber table crew chamber ≡ 0 → ⊥) → addTable table crew chamber ≡ table
 unfolding addTable

@@ -6,7 +6,6 @@ use mathlib.Core.List.{List, [], _∷_, _++_}
 use lib.ListN.{length, replicate}
 use Rattle.rules.specs.Site.{firstRefusal, ifDone}
 use Rattle.rules.specs.Search.{places}
-use Rattle.pins_rules.specs.declared.Listing.{Listing}
 use Rattle.pins_rules.specs.Table.{free, pin, crewOf, chamberOf, stands, pinned, held, pinsOf, empty, wordFits, wordsFit, eachOnce, tableFits, firstChanged, withPin, withoutPin}
 use Rattle.pins_rules.specs.Calls.{crewNumber, chamberNumber, addNumber, addTable, removeNumber, removeTable, listNumber, listAnswer, listFound}
 

@@ -1,5 +1,5 @@
 -- Document 02, [13]: the pin table, a list of 64 words, one for each place. Two crews put pins on chambers in it.
-use Prim.Native.Nat.{ℕ, suc, _+_, _*_, _/_, _%_}
+use Prim.Native.Nat.{ℕ, _+_, _*_, _/_, _%_}
 use mathlib.Core.Bool.{Bool, true, false, cond, not, _&&_, _||_}
 use mathlib.Core.List.{List, [], _∷_}
 use lib.ListN.{replicate}

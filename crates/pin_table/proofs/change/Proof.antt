@@ -1,7 +1,7 @@
 -- `change`: a word that is put at the first place of another, and where there is none, nothing.
 use native.Mathlib.Omega.{arith}
 use mathlib.Core.Path.{sym}
-use Rattle.pins_laws.specs.Found.{change-there, change-nowhere}
+use Rattle.pins_laws.specs.FirstPlace.{change-there, change-nowhere}
 use borrow.Author.Needs.{needs}
 use Rattle.pin_table.proofs.change.Statement.{statement}
 use Rattle.pin_table.proofs.change.Tie as tie

@@ -3,7 +3,7 @@ use Prim.Native.Nat.{_-_}
 use mathlib.Core.Logic.{⊎-elim}
 use native.Mathlib.Omega.{arith}
 use lib.ListN.{length}
-use Rattle.pins_laws.specs.Found.{Seeking, seek-none, seek-here, seek-on, seek-all}
+use Rattle.pins_laws.specs.FirstPlace.{Seeking, seek-none, seek-here, seek-on, seek-all}
 use Rattle.pin_table.proofs.first_place.Statement.{statement}
 use Rattle.pin_table.proofs.first_place.Tie as tie
 

@@ -1,5 +1,4 @@
 -- `word_fits`: three tests, joined as the definition joins them.
-use mathlib.Core.Path.{refl}
 use Rattle.pins_rules.specs.Table.{wordFits}
 use borrow.Author.Needs.{needs}
 use Rattle.pin_table.proofs.word_fits.Statement.{statement}

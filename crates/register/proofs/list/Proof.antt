@@ -37,15 +37,11 @@ cast-draft c = let at = c .before .before .before in omega (arith, at .before .b
 small : (c : tie.Then1 Inv-loop μ-loop) → c .before .before .before .loop .n < 1000
 small c = let at = c .before .before .before in omega (arith, list-few (at .loop .inv), at .before .before .pre .0 .few)
 
--- the draft has room for one place more
-room : (at : tie.At-loop Inv-loop μ-loop) → at .loop .k < length (at .before .before .args .xs .now) → at .loop .n < length (at .before .before .args .draft .now)
-room at less = omega (arith, list-few (at .loop .inv), at .before .before .pre .1)
-
 mul-draft : tie.Need-mul-draft Inv-loop μ-loop
 mul-draft c = omega (arith, small c)
 
 slice-write-draft : tie.Need-slice-write-draft Inv-loop μ-loop
-slice-write-draft c = let at = c .before .before .before in omega (arith, room at (c .before .before .loop-test .taken), list-length (at .loop .inv) (omega (arith, room at (c .before .before .loop-test .taken))))
+slice-write-draft c = let at = c .before .before .before in omega (arith, list-few (at .loop .inv), list-length (at .loop .inv) (at .before .before .pre .1), at .before .before .pre .1)
 
 add-n : tie.Need-add-n Inv-loop μ-loop
 add-n c = omega (arith, small c)
@@ -63,12 +59,12 @@ loop-again c =
     let less = c .before .before .loop-test .taken in
     let said = c .before .listed-at .ensures in
     ⊎-elim
-    (λ w. list-yes (at .loop .inv) less (room at less) (sym said ∙ w .0 .taken) (w .1) (w .2))
+    (λ w. list-yes (at .loop .inv) less (o .pre .1) (sym said ∙ w .0 .taken) (w .1) (w .2))
     (λ w. list-no (at .loop .inv) less (sym said ∙ w .0 .left) (w .1) (w .2))
     (c .if1 .came)
 
 same-length : tie.Need-same-length Inv-loop μ-loop
-same-length c = let at = c .before in list-length (at .loop .inv) (omega (arith, list-few (at .loop .inv), at .loop .inv .most, at .before .before .pre .1))
+same-length c = list-length (c .before .loop .inv) (c .before .before .before .pre .1)
 
 returns : tie.Need-returns Inv-loop μ-loop
 unfolding listOf

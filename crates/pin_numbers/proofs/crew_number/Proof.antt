@@ -5,8 +5,8 @@ use borrow.Author.Tests.{not-true, not-false}
 use Rattle.rules.specs.Site.{firstRefusal}
 use Rattle.pins_rules.specs.Calls.{crewNumber}
 use borrow.Author.Needs.{needs}
-use Rattle.pin_table.proofs.crew_number.Statement.{statement}
-use Rattle.pin_table.proofs.crew_number.Tie as tie
+use Rattle.pin_numbers.proofs.crew_number.Statement.{statement}
+use Rattle.pin_numbers.proofs.crew_number.Tie as tie
 
 returns : tie.Need-returns
 unfolding crewNumber firstRefusal

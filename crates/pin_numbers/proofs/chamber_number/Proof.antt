@@ -5,8 +5,8 @@ use mathlib.Core.Bool.{Bool}
 use Rattle.laws.specs.Outcomes.{first-refused, first-passed}
 use Rattle.pins_rules.specs.Calls.{unless as Calls·unless, chamberNumber}
 use borrow.Author.Needs.{needs}
-use Rattle.pin_table.proofs.chamber_number.Statement.{statement}
-use Rattle.pin_table.proofs.chamber_number.Tie as tie
+use Rattle.pin_numbers.proofs.chamber_number.Statement.{statement}
+use Rattle.pin_numbers.proofs.chamber_number.Tie as tie
 
 crew-number-requires : tie.Need-crew-number-requires
 crew-number-requires c κs = λ e. eqb-true _ 64 e

@@ -1,8 +1,8 @@
 -- `first_refusal`: the second number counts where the first is 0.
 use mathlib.Core.Path.{sym}
 use Rattle.laws.specs.Outcomes.{first-refused, first-passed}
-use Rattle.pin_table.proofs.first_refusal.Statement.{statement}
-use Rattle.pin_table.proofs.first_refusal.Tie as tie
+use Rattle.pin_numbers.proofs.first_refusal.Statement.{statement}
+use Rattle.pin_numbers.proofs.first_refusal.Tie as tie
 
 returns : tie.Need-returns
 returns c = sym (first-refused _ _ (c .if1 .taken))
