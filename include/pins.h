@@ -52,7 +52,8 @@
 extern "C" {
 #endif
 
-/* How many places a table has, how many pins each crew may have, how many chambers there are, and what one crew counts in a word. */
+/* How many places a table has, how many pins each crew may have, how many chambers there are, and what a word has for
+ * each crew: a pin is PINS_CREW*crew + chamber. */
 enum { PINS_PLACES = 64, PINS_EACH = 32, PINS_CHAMBERS = 1000, PINS_CREW = 65536 };
 
 /* What a listing answers: its number, and how many chambers stand at the front of the list, 0 if refused. */

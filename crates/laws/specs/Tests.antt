@@ -1,6 +1,7 @@
--- Laws of tests that the kit lacks: a test as a truth value and as a fact, and tests joined by `_&&_`.
+-- Laws of tests that the kit lacks: a test as a truth value and as a fact, and tests joined by `_&&_` and by `_||_`.
 use mathlib.Core.Path.{_≡_, refl, sym, ap₂, _∙_, subst}
-use mathlib.Core.Bool.{Bool, true, false, cond, not, _&&_, and-comm}
+use mathlib.Core.Bool.{Bool, true, false, cond, not, _&&_, _||_, and-comm}
+use mathlib.Core.Logic.{_⊎_, inl, inr}
 use lib.Dec.{T}
 
 pub both-ways : (a b : Bool) → (T a → T b) → (T b → T a) → a ≡ b
@@ -39,6 +40,18 @@ and-left false b t = t
 pub and-right : (a b : Bool) → T (a && b) → T b
 and-right true b t = t
 and-right false b t = absurd t
+
+pub or-cases : (a b : Bool) → T (a || b) → T a ⊎ T b
+or-cases true b t = inl tt
+or-cases false b t = inr t
+
+pub or-left : (a b : Bool) → T a → T (a || b)
+or-left true b t = tt
+or-left false b t = absurd t
+
+pub or-right : (a b : Bool) → T b → T (a || b)
+or-right true b t = tt
+or-right false b t = t
 
 -- three and four tests, joined as `_&&_` joins them
 pub record Three (a b c : Bool) : Type 0 where

@@ -106,7 +106,7 @@ fn mark(marks: &mut [u8], word: u32) -> bool
     let crew = crew_of(word) as u8;
     let before = marks[at];
     marks[at] = before | crew;
-    before & crew == 0
+    (before & crew) == 0
 }
 
 // Whether no pin stands there twice, by marks. A look at each pair of places takes four times as long.

@@ -7,9 +7,8 @@ use native.Mathlib.Omega.{arith}
 use lib.ListN.{length}
 use lib.Dec.{T, eqb, eqb→eq}
 use borrow.Author.Tests.{eq-eqb, ne-eqb}
-use Rattle.laws.specs.Tests.{to-T, and-both, and-left, and-right}
+use Rattle.laws.specs.Tests.{to-T, and-both, and-left, and-right, or-left, or-right}
 use Rattle.pins_rules.specs.Table.{crewOf, stands, held, wordFits, wordsFit, firstChanged}
-use Rattle.pins_laws.specs.Words.{or-left, or-right}
 
 -- one place had the word `from` and has the word `to`, all others have what they had
 pub data Changed (from to : ℕ) : List ℕ → List ℕ → Type 0 where

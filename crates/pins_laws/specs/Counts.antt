@@ -8,12 +8,12 @@ use native.Mathlib.Omega.{arith}
 use lib.ListN.{length}
 use lib.Dec.{T, eqb}
 use borrow.Author.Tests.{eq-eqb, ne-eqb, lt-ltb, eqb-true, eqb-false}
-use Rattle.laws.specs.Tests.{false-of, and-left, and-right}
+use Rattle.laws.specs.Tests.{false-of, and-left, and-right, or-right}
 use Rattle.rules.specs.Search.{places}
 use Rattle.laws.specs.PutIn.{places-same, one-more-place}
 use Rattle.laws.specs.Rising.{places-empty}
 use Rattle.pins_rules.specs.Table.{pin, crewOf, pinned, stands, held, pinsOf, wordFits, wordsFit, eachOnce}
-use Rattle.pins_laws.specs.Words.{Crew, Fitting, none, one, fitting, crew-of-pin, pin-not-free, same-chamber, or-right}
+use Rattle.pins_laws.specs.Words.{Crew, Fitting, none, one, fitting, crew-of-pin, pin-not-free, same-chamber}
 use Rattle.pins_laws.specs.Once.{first-once, rest-once}
 
 -- ---- one word: free, of crew 1 or of crew 2
@@ -58,15 +58,15 @@ free-stands (w ∷ rest) t h = go w (fitting (and-left (wordFits w) (wordsFit re
         let e : ofCrew 0 (pin crew chamber) ≡ 0 = rw (crew-of-pin crew {chamber = chamber} (omega arith), ne-eqb crew 0 (λ z. omega (arith, k .least))) in
         or-right (eqb (pin crew chamber) 0) (stands 0 rest) (later (omega arith))
 
-pub finds-a-place : (table : List ℕ) → T (wordsFit table) → held 1 table + held 2 table < length table → T (stands 0 table)
-finds-a-place table t h = free-stands table t (omega (arith, all-of-three table t))
+pub some-place-free : (table : List ℕ) → T (wordsFit table) → held 1 table + held 2 table < length table → T (stands 0 table)
+some-place-free table t h = free-stands table t (omega (arith, all-of-three table t))
 
 -- ---- a crew's listing
 
 module _ (crew : ℕ) where
-  pub none-listed : pinsOf [] crew ≡ []
+  pub nothing-listed : pinsOf [] crew ≡ []
   unfolding pinsOf pinned stands
-  none-listed = places-empty (pinned [] crew) 1000 (λ j h. refl)
+  nothing-listed = places-empty (pinned [] crew) 1000 (λ j h. refl)
 
   -- a word before a table that is not this crew's
   pub other-listed : (w : ℕ) (rest : List ℕ) → (crewOf w ≡ crew → ⊥) → pinsOf (w ∷ rest) crew ≡ pinsOf rest crew
@@ -123,6 +123,6 @@ module _ (crew : ℕ) where
 
   pub as-many-as-held : Crew crew → (table : List ℕ) → T (wordsFit table) → T (eachOnce table) → length (pinsOf table crew) ≡ held crew table
   unfolding wordsFit held
-  as-many-as-held k [] t o = ap length none-listed
+  as-many-as-held k [] t o = ap length nothing-listed
   as-many-as-held k (w ∷ rest) t o =
       grow-alike k w rest (fitting (and-left (wordFits w) (wordsFit rest) t)) o (as-many-as-held k rest (and-right (wordFits w) (wordsFit rest) t) (rest-once w rest o))

@@ -8,5 +8,6 @@ pub mod Granted
 pub mod Folds
 pub mod FirstPlace
 pub mod Marks
+pub mod Marking
 pub mod Room
 pub mod Laying

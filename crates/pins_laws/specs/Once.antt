@@ -6,9 +6,8 @@ use mathlib.Core.Logic.{inl, inr}
 use mathlib.Core.List.{List, _∷_}
 use lib.Dec.{T, eqb, eqb→eq, T-not, not-T}
 use borrow.Author.Tests.{eq-eqb, ne-eqb}
-use Rattle.laws.specs.Tests.{false-of, to-T, and-both, and-left, and-right}
+use Rattle.laws.specs.Tests.{false-of, to-T, and-both, and-left, and-right, or-cases, or-left, or-right}
 use Rattle.pins_rules.specs.Table.{stands, eachOnce}
-use Rattle.pins_laws.specs.Words.{or-cases, or-left, or-right}
 use Rattle.pins_laws.specs.Changes.{Changed, here, there, stood, others-stand}
 
 -- the first word of such a table, if it is a pin, stands nowhere behind; and so of the rest

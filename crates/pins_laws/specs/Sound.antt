@@ -13,7 +13,7 @@ use Rattle.pins_rules.specs.Table.{pin, crewOf, pinned, stands, held, empty, wo
 use Rattle.pins_laws.specs.Words.{Crew, crew-one, crew-two, by-crew, crew-of-pin, other-pin, pin-not-free, none-fits, pin-fits}
 use Rattle.pins_laws.specs.Changes.{Changed, changed, changed-length, stands-now, others-stand, held-changed, words-fit}
 use Rattle.pins_laws.specs.Once.{once-added, once-removed, gone}
-use Rattle.pins_laws.specs.Counts.{finds-a-place}
+use Rattle.pins_laws.specs.Counts.{some-place-free}
 
 pub record Sound (table : List ℕ) : Type 0 where
   pub sized : length table ≡ 64
@@ -44,7 +44,7 @@ empty-sound = sound empty refl tt
 
 -- ---- a pin comes
 
--- what changed: the table is sound, this crew has the pin or has it not, and any other pin stands where it stood
+-- what changed: the table is sound, this crew has the pin or has it not, and any other pin is there if it was there
 pub record Left (table : List ℕ) (crew chamber : ℕ) (now : Bool) (table′ : List ℕ) : Type 0 where
   pub still-sound : Sound table′
   pub this : pinned table′ crew chamber ≡ now
@@ -52,7 +52,7 @@ pub record Left (table : List ℕ) (crew chamber : ℕ) (now : Bool) (table′ :
 
 -- a crew with room finds a place, however many pins the other has
 pub room-finds-a-place : {table : List ℕ} {crew : ℕ} → Sound table → Crew crew → held crew table < 32 → T (stands 0 table)
-room-finds-a-place {table} {crew} s k r = finds-a-place table (s .words) (subst (λ (n : ℕ). held 1 table + held 2 table < n) (sym (s .sized)) (by-crew Fewer first second crew k r))
+room-finds-a-place {table} {crew} s k r = some-place-free table (s .words) (subst (λ (n : ℕ). held 1 table + held 2 table < n) (sym (s .sized)) (by-crew Fewer first second crew k r))
   where
     Fewer : ℕ → Type 0
     Fewer c = held c table < 32 → held 1 table + held 2 table < 64

@@ -15,7 +15,7 @@ use Rattle.pins_laws.specs.Words.{crew-is}
 use Rattle.pins_laws.specs.Sound.{Sound, sound, passes, empty-sound, room-finds-a-place}
 use Rattle.pins_laws.specs.Granted.{sound-crew, sound-sized, sound-chamber}
 use Rattle.pins_promises.specs.Histories.{Call, after, tableAfter}
-use Rattle.pins_promises.specs.OwnCalls.{stays-sound}
+use Rattle.pins_promises.specs.OneCall.{stays-sound}
 
 -- 64 words, and none of refusal 3's faults
 pub record Passes (table : List ℕ) : Type 0 where
@@ -50,7 +50,7 @@ pub record Trusted (table : List ℕ) : Type 0 where
   pub removing : (crew chamber : ℕ) → (removeNumber table crew chamber ≡ 2 → ⊥) × (removeNumber table crew chamber ≡ 3 → ⊥)
   pub listing : (crew : ℕ) (found : List ℕ) → (length found ≡ 32 → listAnswer table crew found .number ≡ 2 → ⊥) × (listAnswer table crew found .number ≡ 3 → ⊥)
 
--- a number of a sound table's calls, 1 to 10
+-- a number from 1 to 10: no call on a sound table gives it, but a listing 2 for its list
 module _ {table : List ℕ} (s : Sound table) (n : ℕ) (least : 0 < n) (most : n < 11) where
   never-chamber : (crew chamber : ℕ) → chamberNumber table crew chamber ≡ n → ⊥
   never-chamber crew chamber e = first-never (unless (isCrew crew) 11) (unless (isChamber chamber) 12) n
@@ -101,3 +101,9 @@ pub adds-with-room : (table : List ℕ) (crew chamber : ℕ) → Passes table �
 unfolding addNumber firstRefusal
 adds-with-room table crew chamber p k h n r =
     rw (sound-chamber crew chamber (sound table (p .sized) (to-T (p .fits))), k, h, n, lt-ltb (held crew table) 32 r)
+
+-- and where the crew has 32 it is refused with 14
+pub refused-without-room : (table : List ℕ) (crew chamber : ℕ) → Passes table → isCrew crew ≡ true → isChamber chamber ≡ true → pinned table crew chamber ≡ false → held crew table ≡ 32
+    → addNumber table crew chamber ≡ 14
+unfolding addNumber firstRefusal
+refused-without-room table crew chamber p k h n r = rw (sound-chamber crew chamber (sound table (p .sized) (to-T (p .fits))), k, h, n, r)

@@ -1,4 +1,4 @@
--- A history of calls on one pin table: what each call answers, which table it leaves, and what a history answers to one crew.
+-- A history of calls on one pin table, which is lent whole to each of them: what each call answers, which table it leaves, and what a history answers to one crew.
 -- Answers and tables are those that the contracts fix (pins_rules, Calls.antt), refused calls too.
 use Prim.Native.Nat.{ℕ}
 use mathlib.Core.Bool.{cond}

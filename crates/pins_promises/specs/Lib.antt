@@ -1,8 +1,10 @@
 pub mod Histories
+pub mod OneCall
 pub mod OwnCalls
 pub mod OneOutcome
 pub mod Refused
 pub mod Done
 pub mod Listed
 pub mod ForEver
+pub mod Shown
 pub mod Promises

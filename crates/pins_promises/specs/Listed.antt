@@ -22,7 +22,7 @@ pub lists : (table : List ℕ) (crew : ℕ) → Lists table crew (pinsOf table c
 unfolding pinsOf
 lists table crew = record { only = sound (pinned table crew) 1000; all = complete (pinned table crew) 1000; rise = rising (pinned table crew) 1000 }
 
--- the count of a listing that is done: as many as the crew has pins, so that an add of a new one is refused with 14 exactly at 32
+-- the count of a listing that is done: as many as the crew has pins, and never over 32
 pub counts : (table : List ℕ) (crew : ℕ) (found : List ℕ) → listAnswer table crew found .number ≡ 0 → (listAnswer table crew found .count ≡ held crew table) × (held crew table ≤ 32)
 unfolding listAnswer
 counts table crew found e =

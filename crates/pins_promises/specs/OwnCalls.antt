@@ -9,7 +9,7 @@ use lib.Dec.{ltb, eqb}
 use borrow.Author.Tests.{eqb-true, eqb-false}
 use Rattle.rules.specs.Site.{firstRefusal, ifDone}
 use Rattle.laws.specs.PutIn.{places-same}
-use Rattle.laws.specs.Outcomes.{first-same, if-same, if-either}
+use Rattle.laws.specs.Outcomes.{first-same, if-same}
 use Rattle.pins_rules.specs.declared.Listing.{Listing}
 use Rattle.pins_rules.specs.Table.{isCrew, pinned, held, pinsOf, withPin, withoutPin}
 use Rattle.pins_rules.specs.Calls.{unless, crewNumber, chamberNumber, addNumber, addTable, removeNumber, removeTable, listNumber, listAnswer, listFound}
@@ -17,30 +17,8 @@ use Rattle.pins_laws.specs.Words.{Crew}
 use Rattle.pins_laws.specs.Counts.{as-many-as-held}
 use Rattle.pins_laws.specs.Sound.{Sound, Left, pin-comes, pin-goes}
 use Rattle.pins_laws.specs.Granted.{chamber-granted, add-granted, remove-granted, list-granted, sound-crew, sound-sized, sound-chamber}
-use Rattle.pins_promises.specs.Histories.{Call, add, remove, list, Answer, said, listed, by, answer, after, callsOf, answersTo}
-
--- a call leaves a sound table: it is refused, and the table stays, or the one pin came or went
-pub stays-sound : (table : List ℕ) (call : Call) → Sound table → Sound (after table call)
-unfolding after addTable removeTable
-stays-sound table (add crew chamber) s =
-    if-either Sound (addNumber table crew chamber) (withPin crew chamber table) table
-    (λ e. let g = add-granted table crew chamber e in pin-comes s (g .asked .known) (g .asked .below) (g .room) (g .new) .still-sound) s
-stays-sound table (remove crew chamber) s =
-    if-either Sound (removeNumber table crew chamber) (withoutPin crew chamber table) table
-    (λ e. let g = remove-granted table crew chamber e in pin-goes s (g .asked .known) (g .asked .below) (g .there) .still-sound) s
-stays-sound table (list crew found) s = s
-
--- ---- the other crew's calls: this crew's pins stay
-
-pub others-keep : (table : List ℕ) (call : Call) (crew chamber : ℕ) → (by call ≡ crew → ⊥) → Crew crew → chamber < 1000 → pinned (after table call) crew chamber ≡ pinned table crew chamber
-unfolding after by addTable removeTable
-others-keep table (add whose which) crew chamber other k h =
-    if-either (λ t. pinned t crew chamber ≡ pinned table crew chamber) (addNumber table whose which) (withPin whose which table) table
-    (λ e. let g = add-granted table whose which e in pin-comes (g .asked .is-sound) (g .asked .known) (g .asked .below) (g .room) (g .new) .others k h (λ same _. other same)) refl
-others-keep table (remove whose which) crew chamber other k h =
-    if-either (λ t. pinned t crew chamber ≡ pinned table crew chamber) (removeNumber table whose which) (withoutPin whose which table) table
-    (λ e. let g = remove-granted table whose which e in pin-goes (g .asked .is-sound) (g .asked .known) (g .asked .below) (g .there) .others k h (λ same _. other same)) refl
-others-keep table (list whose found) crew chamber other k h = refl
+use Rattle.pins_promises.specs.OneCall.{stays-sound, others-keep}
+use Rattle.pins_promises.specs.Histories.{Call, add, remove, list, Answer, by, answer, after, callsOf, answersTo}
 
 -- ---- two tables in which a crew has the same pins
 
@@ -102,11 +80,11 @@ module _ {crew : ℕ} {one other : List ℕ} (a : Alike crew one other) where
   same-found found = same-left (λ pins. pins ++ drop (length pins) found) found found
 
   -- so every answer is the same, what a listing leaves in the lent list too
-  same-answer : (call : Call) → by call ≡ crew → answer one call ≡ answer other call
+  pub same-answer : (call : Call) → by call ≡ crew → answer one call ≡ answer other call
   unfolding by answer
-  same-answer (add whose chamber) e = ap said (subst (λ (c : ℕ). addNumber one c chamber ≡ addNumber other c chamber) (sym e) (same-add chamber))
-  same-answer (remove whose chamber) e = ap said (subst (λ (c : ℕ). removeNumber one c chamber ≡ removeNumber other c chamber) (sym e) (same-remove chamber))
-  same-answer (list whose found) e = subst (λ (c : ℕ). answer one (list c found) ≡ answer other (list c found)) (sym e) (ap₂ listed (same-listing found) (same-found found))
+  same-answer (add whose chamber) e = cc (same-add chamber)
+  same-answer (remove whose chamber) e = cc (same-remove chamber)
+  same-answer (list whose found) e = cc (same-listing found, same-found found)
 
   -- ---- and the tables stay alike
 
@@ -150,7 +128,7 @@ module _ {crew : ℕ} {one other : List ℕ} (a : Alike crew one other) where
   own-alike (list whose found) e = a
 
   -- by another crew's call on the first
-  others-alike : (call : Call) → (by call ≡ crew → ⊥) → Alike crew (after one call) other
+  pub others-alike : (call : Call) → (by call ≡ crew → ⊥) → Alike crew (after one call) other
   others-alike call differs = record {
     first = stays-sound one call (a .first);
     second = a .second;

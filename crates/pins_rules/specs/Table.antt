@@ -45,7 +45,7 @@ unfoldable pub held : (crew : ℕ) (table : List ℕ) → ℕ
 held crew [] = 0
 held crew (w ∷ rest) = cond (eqb (crewOf w) crew) 1 0 + held crew rest
 
--- a crew's pins in register order: the chambers that it has pinned, rising
+-- a crew's pins in register order: the chambers that it has pinned, rising (`places`, rules, Search.antt: the numbers below 1,000 that pass a test)
 unfoldable pub pinsOf : (table : List ℕ) (crew : ℕ) → List ℕ
 pinsOf table crew = places 1000 (pinned table crew)
 

@@ -8,7 +8,7 @@ pub const PLACES: usize = 64;
 pub const EACH: usize = 32;
 /// How many chambers there are: 0 to 999.
 pub const CHAMBERS: u32 = 1_000;
-/// What one crew counts in a word: a pin is `CREW * crew + chamber`, and a free place is 0.
+/// What a word has for each crew: a pin is `CREW * crew + chamber`, and a free place is 0.
 pub const CREW: u32 = 65_536;
 
 /// What a listing answers: its number, and how many chambers stand at the front of the list, 0 if refused.

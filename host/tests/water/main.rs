@@ -5,6 +5,9 @@
 //! Random cases print their number when they fail. A call that reads or writes beyond the fenced end of a list that it was lent
 //! ends the whole program with SIGSEGV; with `--test-threads=1` the last test named is the one that was stopped.
 
+/// What the names of the variables above begin with.
+const VARIABLES: &str = "WATER";
+
 mod model;
 
 mod given;

@@ -2,14 +2,16 @@
 
 use crate::rng::Rng;
 
-fn number(variable: &str) -> Option<u64> {
+// a variable by the second half of its name; the first is the package's (main.rs)
+fn number(half: &str) -> Option<u64> {
+    let variable = &format!("{}_{half}", crate::VARIABLES);
     let value = std::env::var(variable).ok()?;
     Some(value.parse().unwrap_or_else(|_| panic!("{variable} is a whole number, and not {value:?}")))
 }
 
-/// How many times `count` cases the variable WATER_LONG asks for.
+/// How many times `count` cases the variable `.._LONG` asks for.
 pub fn at_length(count: u64) -> u64 {
-    count * number("WATER_LONG").unwrap_or(1).max(1)
+    count * number("LONG").unwrap_or(1).max(1)
 }
 
 struct Case<'a> {
@@ -20,16 +22,16 @@ struct Case<'a> {
 impl Drop for Case<'_> {
     fn drop(&mut self) {
         if std::thread::panicking() {
-            eprintln!("{}: case {} failed; WATER_CASE={} tries it alone", self.name, self.number, self.number);
+            eprintln!("{}: case {} failed; {}_CASE={} tries it alone", self.name, self.number, crate::VARIABLES, self.number);
         }
     }
 }
 
-/// Tries `body` on `count` cases, or on WATER_LONG times as many.
+/// Tries `body` on `count` cases, or on `.._LONG` times as many.
 pub fn trials(name: &str, count: u64, mut body: impl FnMut(&mut Rng)) {
-    // a seed of the test's own: its name's bytes, and WATER_SEED
-    let seed = name.bytes().fold(number("WATER_SEED").unwrap_or(0), |seed, byte| Rng::new(seed ^ u64::from(byte)).next());
-    let cases = match number("WATER_CASE") {
+    // a seed of the test's own: its name's bytes, and `.._SEED`
+    let seed = name.bytes().fold(number("SEED").unwrap_or(0), |seed, byte| Rng::new(seed ^ u64::from(byte)).next());
+    let cases = match number("CASE") {
         Some(case) => case..case + 1,
         None => 0..at_length(count),
     };
@@ -42,5 +44,5 @@ pub fn trials(name: &str, count: u64, mut body: impl FnMut(&mut Rng)) {
 
 /// True where a single case is tried, so that counts over all cases say nothing.
 pub fn single() -> bool {
-    number("WATER_CASE").is_some()
+    number("CASE").is_some()
 }

@@ -5,7 +5,7 @@ use Prim.Native.Nat.{ℕ, _-_}
 use native.Mathlib.Omega.{arith}
 use borrow.Author.Tests.{not-true, not-false}
 use lib.ListN.{length, length-replicate}
-use Rattle.pins_laws.specs.Marks.{Marking, mark-none, mark-more, mark-twice, mark-all, mark-length, can-be-marked}
+use Rattle.pins_laws.specs.Marking.{Marking, mark-none, mark-more, mark-twice, mark-all, mark-length, can-be-marked}
 use Rattle.pin_table.proofs.each_once.Statement.{statement}
 use Rattle.pin_table.proofs.each_once.Tie as tie
 

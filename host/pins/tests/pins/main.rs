@@ -6,20 +6,25 @@
 //! Random cases print their number when they fail. A call that reads or writes beyond the fenced end of a list that it was lent
 //! ends the whole program with SIGSEGV; with `--test-threads=1` the last test named is the one that was stopped.
 
+/// What the names of the variables above begin with.
+const VARIABLES: &str = "PINS";
+
 mod model;
 
 mod given;
 mod library;
 mod tables;
-mod trials;
 
-// the water library's tests have these two, and ask more of them
+// the water library's tests have these three, and ask more of them
 #[allow(dead_code)]
 #[path = "../../../tests/water/lent.rs"]
 mod lent;
 #[allow(dead_code)]
 #[path = "../../../tests/water/rng.rs"]
 mod rng;
+#[allow(dead_code)]
+#[path = "../../../tests/water/trials.rs"]
+mod trials;
 
 mod apart;
 mod baseline;
