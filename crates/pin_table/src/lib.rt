@@ -109,7 +109,7 @@ fn mark(marks: &mut [u8], word: u32) -> bool
     (before & crew) == 0
 }
 
-// Whether no pin stands there twice, by marks. A look at each pair of places takes four times as long.
+// Whether no pin stands there twice, by marks: with a look at each pair of places a call takes up to three times as long.
 fn each_once(table: &[u32], marks: &mut [u8]) -> bool
     requires { ⌜ Unmarked (now table) (now marks) ⌝ }
     ensures { λ r. ⌜ r ≡ eachOnce (now (table .entry)) ⌝ }

@@ -22,7 +22,6 @@ stays-sound table (remove crew chamber) s =
 stays-sound table (list crew found) s = s
 
 -- another crew's call: this crew's pins stay
-
 pub others-keep : (table : List ℕ) (call : Call) (crew chamber : ℕ) → (by call ≡ crew → ⊥) → Crew crew → chamber < 1000 → pinned (after table call) crew chamber ≡ pinned table crew chamber
 unfolding after by addTable removeTable
 others-keep table (add whose which) crew chamber other k h =
