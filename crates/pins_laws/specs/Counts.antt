@@ -1,6 +1,6 @@
 -- How many pins a table has: those of both crews and the free places are all of it, so that a crew with room finds a place; and a crew's listing is as long as
 -- the crew has pins.
-use Prim.Native.Nat.{ℕ, zero, suc, _+_, _≤_, _<_}
+use Prim.Native.Nat.{ℕ, _+_, _<_}
 use mathlib.Core.Path.{_≡_, refl, sym, _∙_, ap, subst}
 use mathlib.Core.Bool.{Bool, true, false, cond, not, _||_}
 use mathlib.Core.List.{List, [], _∷_}
@@ -8,12 +8,12 @@ use native.Mathlib.Omega.{arith}
 use lib.ListN.{length}
 use lib.Dec.{T, eqb}
 use borrow.Author.Tests.{eq-eqb, ne-eqb, lt-ltb, eqb-true, eqb-false}
-use Rattle.laws.specs.Tests.{false-of, and-left, and-right, or-right}
+use Rattle.laws.specs.Tests.{false-of, or-right}
 use Rattle.rules.specs.Search.{places}
 use Rattle.laws.specs.PutIn.{places-same, one-more-place}
 use Rattle.laws.specs.Rising.{places-empty}
-use Rattle.pins_rules.specs.Table.{pin, crewOf, pinned, stands, held, pinsOf, wordFits, wordsFit, eachOnce}
-use Rattle.pins_laws.specs.Words.{Crew, Fitting, none, one, fitting, crew-of-pin, pin-not-free, same-chamber}
+use Rattle.pins_rules.specs.Table.{pin, crewOf, pinned, stands, held, pinsOf, wordsFit, eachOnce}
+use Rattle.pins_laws.specs.Words.{Crew, by-crew, Fitting, none, one, first-fits, rest-fits, crew-of-pin, pin-not-free, same-chamber}
 use Rattle.pins_laws.specs.Once.{first-once, rest-once}
 
 -- ---- one word: free, of crew 1 or of crew 2
@@ -28,13 +28,7 @@ ofCrew crew w = cond (eqb (crewOf w) crew) 1 0
 
 one-of-three : {w : ℕ} → Fitting w → ofCrew 0 w + ofCrew 1 w + ofCrew 2 w ≡ 1
 one-of-three none = rw crew-of-free
-one-of-three (one {crew = crew} {chamber = chamber} k h) = rw (crew-of-pin crew {chamber = chamber} (omega arith)) (by crew (k .least) (k .most))
-  where
-    by : (c : ℕ) → 1 ≤ c → c ≤ 2 → cond (eqb c 0) 1 0 + cond (eqb c 1) 1 0 + cond (eqb c 2) 1 0 ≡ 1
-    by zero l m = absurd (omega arith)
-    by (suc zero) l m = refl
-    by (suc (suc zero)) l m = refl
-    by (suc (suc (suc c))) l m = absurd (omega arith)
+one-of-three (one {crew = crew} {chamber = chamber} k h) = rw (crew-of-pin crew {chamber = chamber} (omega arith)) (by-crew (λ c. cond (eqb c 0) 1 0 + cond (eqb c 1) 1 0 + cond (eqb c 2) 1 0 ≡ 1) refl refl crew k)
 
 -- ---- all words
 
@@ -42,15 +36,15 @@ pub all-of-three : (table : List ℕ) → T (wordsFit table) → held 0 table + 
 unfolding held wordsFit
 all-of-three [] t = refl
 all-of-three (w ∷ rest) t =
-    let e = one-of-three (fitting (and-left (wordFits w) (wordsFit rest) t)) in
-    let later = all-of-three rest (and-right (wordFits w) (wordsFit rest) t) in
+    let e = one-of-three (first-fits w rest t) in
+    let later = all-of-three rest (rest-fits w rest t) in
     omega arith
 
 -- crew 0's words are free places
 free-stands : (table : List ℕ) → T (wordsFit table) → 0 < held 0 table → T (stands 0 table)
 unfolding held wordsFit stands
 free-stands [] t h = absurd (omega arith)
-free-stands (w ∷ rest) t h = go w (fitting (and-left (wordFits w) (wordsFit rest) t)) h (free-stands rest (and-right (wordFits w) (wordsFit rest) t))
+free-stands (w ∷ rest) t h = go w (first-fits w rest t) h (free-stands rest (rest-fits w rest t))
   where
     go : (w : ℕ) → Fitting w → 0 < ofCrew 0 w + held 0 rest → (0 < held 0 rest → T (stands 0 rest)) → T (eqb w 0 || stands 0 rest)
     go w none h later = tt
@@ -125,4 +119,4 @@ module _ (crew : ℕ) where
   unfolding wordsFit held
   as-many-as-held k [] t o = ap length nothing-listed
   as-many-as-held k (w ∷ rest) t o =
-      grow-alike k w rest (fitting (and-left (wordFits w) (wordsFit rest) t)) o (as-many-as-held k rest (and-right (wordFits w) (wordsFit rest) t) (rest-once w rest o))
+      grow-alike k w rest (first-fits w rest t) o (as-many-as-held k rest (rest-fits w rest t) (rest-once w rest o))

@@ -10,8 +10,8 @@ use lib.Seq.{drop-length}
 use lib.Dec.{T, eqb, not-T}
 use Rattle.laws.specs.Tests.{to-T, true-of, false-of, and-both, and-left}
 use Rattle.pins_rules.specs.Table.{pin, crewOf, chamberOf, stands, wordsFit, eachOnce}
-use Rattle.pins_laws.specs.Words.{Fitting, none, one, crew-of-pin, chamber-of-pin}
-use Rattle.pins_laws.specs.Behind.{one-before, words-behind, once-behind, first-fits}
+use Rattle.pins_laws.specs.Words.{Fitting, none, one, crew-of-pin, chamber-of-pin, first-fits}
+use Rattle.pins_laws.specs.Behind.{one-before, words-behind, once-behind}
 use Rattle.pins_laws.specs.Marks.{isNew, withMark, Markable, MarkedBy, Marks, marks-none, marks-new, marks-more}
 
 nothing : chamberOf 0 < 1000

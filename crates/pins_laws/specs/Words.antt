@@ -3,13 +3,14 @@ use Prim.Native.Nat.{ℕ, zero, suc, _≤_, _<_}
 use mathlib.Core.Path.{_≡_, refl, sym, _∙_, ap, ap₂, subst}
 use mathlib.Core.Bool.{Bool, true, false, _&&_}
 use mathlib.Core.Logic.{inl, inr}
+use mathlib.Core.List.{List, _∷_}
 use native.Mathlib.Nat.{div-add-mod'}
 use native.Mathlib.Omega.{arith}
 use lib.Arith.{digits-div, digits-mod}
 use lib.Dec.{T, leb, eqb, leb→le, le→leb, ltb→lt, lt→ltb, eqb→eq}
 use borrow.Author.Tests.{eq-eqb, ne-eqb, eqb-true, eqb-false}
 use Rattle.laws.specs.Tests.{and-both, and-left, and-right, or-cases, or-right}
-use Rattle.pins_rules.specs.Table.{pin, crewOf, chamberOf, isCrew, isChamber, wordFits}
+use Rattle.pins_rules.specs.Table.{pin, crewOf, chamberOf, isCrew, isChamber, wordFits, wordsFit}
 
 -- ---- pins
 
@@ -96,3 +97,12 @@ pin-fits {crew} {chamber} k h =
     (and-both (isCrew (crewOf (pin crew chamber))) (isChamber (chamberOf (pin crew chamber)))
     (subst (λ (n : ℕ). T (isCrew n)) (sym (crew-of-pin crew {chamber = chamber} (omega arith))) (is-crew k))
     (subst (λ (n : ℕ). T (isChamber n)) (sym (chamber-of-pin crew {chamber = chamber} (omega arith))) (lt→ltb chamber 1000 h)))
+
+-- of a table whose words fit, the first one and the rest
+pub first-fits : (w : ℕ) (rest : List ℕ) → T (wordsFit (w ∷ rest)) → Fitting w
+unfolding wordsFit
+first-fits w rest t = fitting (and-left (wordFits w) (wordsFit rest) t)
+
+pub rest-fits : (w : ℕ) (rest : List ℕ) → T (wordsFit (w ∷ rest)) → T (wordsFit rest)
+unfolding wordsFit
+rest-fits w rest t = and-right (wordFits w) (wordsFit rest) t

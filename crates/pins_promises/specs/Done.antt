@@ -3,19 +3,19 @@ use Prim.Native.Nat.{ℕ}
 use mathlib.Core.Path.{_≡_, refl, sym, subst}
 use mathlib.Core.Bool.{Bool, true, false}
 use mathlib.Core.List.{List}
-use lib.ListN.{length}
 use borrow.Author.Tests.{ltb-true}
 use Rattle.laws.specs.Tests.{to-T}
 use Rattle.laws.specs.Outcomes.{if-done}
 use Rattle.laws.specs.PutIn.{places-same}
-use Rattle.pins_rules.specs.Table.{isCrew, isChamber, pinned, pinsOf, tableFits, withPin, withoutPin}
+use Rattle.pins_rules.specs.Table.{isCrew, isChamber, pinned, pinsOf, withPin, withoutPin}
 use Rattle.pins_rules.specs.Calls.{addNumber, addTable, removeNumber, removeTable}
 use Rattle.pins_laws.specs.Words.{crew-is}
-use Rattle.pins_laws.specs.Sound.{Left, sound, pin-comes, pin-goes}
+use Rattle.pins_laws.specs.Sound.{Left, pin-comes, pin-goes}
 use Rattle.pins_laws.specs.Granted.{add-granted, remove-granted}
 use Rattle.pins_promises.specs.Histories.{Call, by, answer, after}
 use Rattle.pins_promises.specs.OwnCalls.{same-answer, others-alike}
 use Rattle.pins_promises.specs.OneCall.{others-keep}
+use Rattle.pins_promises.specs.ForEver.{Passes, passing-sound}
 
 -- the crew has this pin now, or has it no more, and every other pin of either crew is as it was
 pub record OnePin (table : List ℕ) (crew chamber : ℕ) (has : Bool) (table′ : List ℕ) : Type 0 where
@@ -45,8 +45,7 @@ unfolding pinsOf
 untouched table call crew k other = places-same 1000 (pinned (after table call) crew) (pinned table crew) (λ chamber h. others-keep table call crew chamber other (crew-is (to-T k)) h)
 
 -- and on a table that passes it changes no answer to this crew
-pub undisturbed : (table : List ℕ) → length table ≡ 64 → tableFits table ≡ true → (call own : Call) (crew : ℕ) → (by call ≡ crew → ⊥) → by own ≡ crew
-    → answer (after table call) own ≡ answer table own
-undisturbed table e t call own crew other is =
-    let s = sound table e (to-T t) in
+pub undisturbed : (table : List ℕ) → Passes table → (call own : Call) (crew : ℕ) → (by call ≡ crew → ⊥) → by own ≡ crew → answer (after table call) own ≡ answer table own
+undisturbed table p call own crew other is =
+    let s = passing-sound p in
     same-answer (others-alike (record { first = s; second = s; same = λ k chamber h. refl }) call other) own is

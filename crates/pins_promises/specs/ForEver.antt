@@ -27,11 +27,18 @@ unfolding tableAfter
 sound-after table [] s = s
 sound-after table (call ∷ later) s = sound-after (after table call) later (stays-sound table call s)
 
+-- it is sound, and a sound one passes
+pub passing-sound : {table : List ℕ} → Passes table → Sound table
+passing-sound {table} p = sound table (p .sized) (to-T (p .fits))
+
+sound-passing : {table : List ℕ} → Sound table → Passes table
+sound-passing s = record { sized = s .sized; fits = passes s }
+
 pub passes-after : (table : List ℕ) (history : List Call) → Passes table → Passes (tableAfter table history)
-passes-after table history p = let s = sound-after table history (sound table (p .sized) (to-T (p .fits))) in record { sized = s .sized; fits = passes s }
+passes-after table history p = sound-passing (sound-after table history (passing-sound p))
 
 pub passes-for-ever : (history : List Call) → Passes (tableAfter empty history)
-passes-for-ever history = let s = sound-after empty history empty-sound in record { sized = s .sized; fits = passes s }
+passes-for-ever history = passes-after empty history (sound-passing empty-sound)
 
 -- ---- so no call finds fault with such a table
 
@@ -93,17 +100,17 @@ never-refused-for-its-table history = trusted (sound-after empty history empty-s
 -- ---- and a crew with room always finds a place
 
 pub finds-a-place : (table : List ℕ) (crew : ℕ) → Passes table → isCrew crew ≡ true → held crew table < 32 → stands free table ≡ true
-finds-a-place table crew p k r = true-of (stands free table) (room-finds-a-place (sound table (p .sized) (to-T (p .fits))) (crew-is (to-T k)) r)
+finds-a-place table crew p k r = true-of (stands free table) (room-finds-a-place (passing-sound p) (crew-is (to-T k)) r)
 
 -- so an add of a new pin is done
 pub adds-with-room : (table : List ℕ) (crew chamber : ℕ) → Passes table → isCrew crew ≡ true → isChamber chamber ≡ true → pinned table crew chamber ≡ false → held crew table < 32
     → addNumber table crew chamber ≡ 0
 unfolding addNumber firstRefusal
 adds-with-room table crew chamber p k h n r =
-    rw (sound-chamber crew chamber (sound table (p .sized) (to-T (p .fits))), k, h, n, lt-ltb (held crew table) 32 r)
+    rw (sound-chamber crew chamber (passing-sound p), k, h, n, lt-ltb (held crew table) 32 r)
 
 -- and where the crew has 32 it is refused with 14
 pub refused-without-room : (table : List ℕ) (crew chamber : ℕ) → Passes table → isCrew crew ≡ true → isChamber chamber ≡ true → pinned table crew chamber ≡ false → held crew table ≡ 32
     → addNumber table crew chamber ≡ 14
 unfolding addNumber firstRefusal
-refused-without-room table crew chamber p k h n r = rw (sound-chamber crew chamber (sound table (p .sized) (to-T (p .fits))), k, h, n, r)
+refused-without-room table crew chamber p k h n r = rw (sound-chamber crew chamber (passing-sound p), k, h, n, r)
