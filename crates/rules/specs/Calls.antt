@@ -5,7 +5,7 @@ use Prim.Native.Nat.{ℕ, zero, suc}
 use mathlib.Core.Bool.{true, cond}
 use mathlib.Core.List.{List, [], _++_}
 use lib.ListN.{length, drop, replicate}
-use lib.IntN.{ℤ, pos}
+use lib.IntN.{ℤ, pos, natAbs}
 use lib.Dec.{leb}
 use lib.Ieee.{Float}
 use Rattle.rules.specs.declared.Card.{Card}
@@ -17,6 +17,7 @@ use Rattle.rules.specs.declared.Wrote.{Wrote}
 use Rattle.rules.specs.declared.Reading.{Reading}
 use Rattle.rules.specs.declared.Reading.the-variants.{Metres, Feet, Nothing}
 use Rattle.rules.specs.declared.Staff.{Staff}
+use Rattle.rules.specs.declared.Raster.{Raster}
 use Rattle.rules.specs.Site.{checkAlso, check, firstRefusal, ifDone}
 use Rattle.rules.specs.Step.{Rule, newVelocity}
 use Rattle.rules.specs.Textbook.{textbookVelocity}
@@ -25,6 +26,7 @@ use Rattle.rules.specs.Search.{registerFits, askedFits, listOf}
 use Rattle.rules.specs.Staff.{product, withoutHeight, measured}
 use Rattle.rules.specs.Sheet.{sheetSize, sheetOf, cardIn, groundIn, stateIn, readNumber, noCard}
 use Rattle.rules.specs.Text.{depthText, fitted}
+use Rattle.rules.specs.Raster.{wordsOf, columnsIn, rowsIn, sideIn, rasterGround, rasterNumber, rasterText, rasterTextNumber}
 
 -- ---- Step: reads ground, state and pumps, fills a next state. Refused: next state as lent. Over the rule for new velocities
 
@@ -135,3 +137,27 @@ kindAnswer zero v = staffAnswer Nothing
 kindAnswer (suc zero) v = staffAnswer (Metres v)
 kindAnswer (suc (suc zero)) v = staffAnswer (Feet v)
 kindAnswer (suc (suc (suc k))) v = withoutHeight 3
+
+-- ---- Raster reader (document 02, [3]): the number, columns, rows and side, and the ground. Refused: all 0, the list as lent.
+
+unfoldable pub readRasterAnswer : (text : List ℕ) (ground : List ℤ) → Raster
+readRasterAnswer text g = record {
+  number = rasterNumber text (length g);
+  columns = ifDone (rasterNumber text (length g)) (columnsIn (wordsOf text)) 0;
+  rows = ifDone (rasterNumber text (length g)) (rowsIn (wordsOf text)) 0;
+  side = ifDone (rasterNumber text (length g)) (natAbs (sideIn (wordsOf text))) 0;
+}
+
+unfoldable pub readRasterGround : (text : List ℕ) (ground : List ℤ) → List ℤ
+readRasterGround text g = ifDone (rasterNumber text (length g)) (rasterGround (wordsOf text)) g
+
+-- ---- Raster writer: the number and the size, the text in front, the rest as lent; refused: size 0, the text as lent.
+
+unfoldable pub writeRasterAnswer : Card → (ground : List ℤ) (text : List ℕ) → Wrote
+writeRasterAnswer c g text = record {
+  number = rasterTextNumber c g (length text);
+  size = ifDone (rasterTextNumber c g (length text)) (length (rasterText c g)) 0;
+}
+
+unfoldable pub writeRasterText : Card → (ground : List ℤ) (text : List ℕ) → List ℕ
+writeRasterText c g text = ifDone (rasterTextNumber c g (length text)) (rasterText c g ++ drop (length (rasterText c g)) text) text

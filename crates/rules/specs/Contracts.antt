@@ -15,10 +15,11 @@ use Rattle.rules.specs.declared.Heard.{Heard}
 use Rattle.rules.specs.declared.Wrote.{Wrote}
 use Rattle.rules.specs.declared.Reading.{Reading}
 use Rattle.rules.specs.declared.Staff.{Staff}
+use Rattle.rules.specs.declared.Raster.{Raster}
 use Rattle.rules.specs.Search.{xsOf, ysOf}
 use Rattle.rules.specs.Step.{Rule, newVelocity}
 use Rattle.rules.specs.Textbook.{textbookVelocity}
-use Rattle.rules.specs.Calls.{stepAnswerBy, stepNextBy, runTally, runState, runScratch, searchAnswer, searchFound, readAnswer, readGroundList, readStateList, writeAnswer, writeBytes, textPart, textScratch, staffAnswer, kindAnswer}
+use Rattle.rules.specs.Calls.{stepAnswerBy, stepNextBy, runTally, runState, runScratch, searchAnswer, searchFound, readAnswer, readGroundList, readStateList, writeAnswer, writeBytes, textPart, textScratch, staffAnswer, kindAnswer, readRasterAnswer, readRasterGround, writeRasterAnswer, writeRasterText}
 
 -- ---- step, over the rule for new velocities; by the first engine, and by the textbook's
 
@@ -74,3 +75,13 @@ pub record StaffContract (reading : Reading) (answered : Staff) : Type 0 where
 
 pub record KindContract (kind : ℕ) (value : Float) (answered : Staff) : Type 0 where
   pub answer : answered ≡ kindAnswer kind value
+
+-- ---- raster reader and writer
+
+pub record ReadRasterContract (text : List ℕ) (ground : List ℤ) (answered : Raster) (groundAtExit : List ℤ) : Type 0 where
+  pub answer : answered ≡ readRasterAnswer text ground
+  pub ground-exit : groundAtExit ≡ readRasterGround text ground
+
+pub record WriteRasterContract (c : Card) (ground : List ℤ) (text : List ℕ) (wrote : Wrote) (textAtExit : List ℕ) : Type 0 where
+  pub answer : wrote ≡ writeRasterAnswer c ground text
+  pub text-exit : textAtExit ≡ writeRasterText c ground text

@@ -10,6 +10,7 @@ pub mod Staff
 pub mod Sheet
 pub mod Text
 pub mod Play
+pub mod Raster
 pub mod Calls
 pub mod Starred
 pub mod Contracts

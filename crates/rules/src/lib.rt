@@ -116,3 +116,12 @@ pub struct Staff {
     pub read: u32,
     pub height: i32,
 }
+
+// What the raster reader answers: the number, columns and rows, and the side of a cell in micrometres.
+#[repr(C)]
+pub struct Raster {
+    pub number: u32,
+    pub columns: u32,
+    pub rows: u32,
+    pub side: u32,
+}

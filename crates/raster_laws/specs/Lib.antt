@@ -1,0 +1,6 @@
+pub mod Words
+pub mod Digits
+pub mod Sizes
+pub mod Keys
+pub mod Fields
+pub mod Heads
