@@ -4,3 +4,5 @@ pub mod Sizes
 pub mod Keys
 pub mod Fields
 pub mod Heads
+pub mod Looks
+pub mod Decisions

@@ -1,0 +1,234 @@
+-- The reader's number, from what the look over a text has found.
+use Prim.Native.Nat.{ℕ, zero, suc, _+_, _*_, _/_, _%_, _≤_, _<_}
+use mathlib.Core.Path.{_≡_, refl, sym, ap, ap₂, _∙_, subst}
+use mathlib.Core.Bool.{Bool, true, false, cond, not, _&&_}
+use mathlib.Core.List.{List, [], map}
+use native.Mathlib.Omega.{arith}
+use native.Mathlib.Nat.{add-zero, mul-zero, div-add-mod', suc-ne-zero}
+use lib.Arith.{digits-div, digits-mod}
+use lib.IntN.{ℤ, pos, natAbs}
+use lib.Signed.{leZ}
+use lib.ListN.{length, getD, drop, List·getD-map}
+use lib.Dec.{T, leb, eqb, leb→le}
+use borrow.Author.Tests.{eqb-true, eqb-false, eq-eqb, ne-eqb}
+use Rattle.rules.specs.Site.{within, firstOf, groundFits, ifDone}
+use Rattle.rules.specs.Grid.{all}
+use Rattle.rules.specs.Raster.{wordsOf, word, isDecimal, decimalValue, signed, hasNoData, headFits, columnsIn, rowsIn, sideIn, noDataIn, valueWords, valuesIn, isRaster, rasterSizesFit, isNoData, rasterValuesFit, rasterNumberOf, rasterNumber, unsigned, isMinus, sizeOf, numberOf, numberBehind, digitsFront, digitsRest, fraction}
+use Rattle.laws.specs.Tests.{and-left, and-right, to-T, true-of}
+use Rattle.laws.specs.Grids.{all-at, all-same}
+use Rattle.laws.specs.Checks.{Passed, apart}
+use Rattle.laws.specs.Outcomes.{if-done, if-refused}
+use Rattle.raster_laws.specs.Heads.{Headed}
+use Rattle.raster_laws.specs.Looks.{Looked, valueFits, size-signed}
+
+-- ---- A product that is not made
+
+pub product-none : (n columns rows : ℕ) → columns ≡ 0 → eqb n 0 ≡ eqb n (rows * columns)
+product-none n columns rows e = ap (eqb n) (sym (ap (λ (m : ℕ). rows * m) e ∙ mul-zero rows))
+
+pub product-by-quotient : (n columns rows : ℕ) → (columns ≡ 0 → ⊥) → (eqb (n % columns) 0 && eqb (n / columns) rows) ≡ eqb n (rows * columns)
+product-by-quotient n columns rows some = go (eqb n (rows * columns)) refl
+  where
+    low : 0 < columns
+    low = omega arith
+
+    go : (t : Bool) → eqb n (rows * columns) ≡ t → (eqb (n % columns) 0 && eqb (n / columns) rows) ≡ t
+    go true e =
+        let is : n ≡ rows * columns + 0 = eqb-true n (rows * columns) e ∙ sym (add-zero (rows * columns)) in
+        ap₂ _&&_
+        (eq-eqb (n % columns) 0 (ap (λ (m : ℕ). m % columns) is ∙ digits-mod rows low))
+        (eq-eqb (n / columns) rows (ap (λ (m : ℕ). m / columns) is ∙ digits-div rows low))
+    go false e = pick (eqb (n % columns) 0) (eqb (n / columns) rows) refl refl
+      where
+        pick : (s t : Bool) → eqb (n % columns) 0 ≡ s → eqb (n / columns) rows ≡ t → (s && t) ≡ false
+        pick false t f g = refl
+        pick true false f g = refl
+        pick true true f g =
+            absurd
+            (eqb-false n (rows * columns) e
+            (sym (div-add-mod' n columns)
+            ∙ ap₂ (λ (q r : ℕ). q * columns + r) (eqb-true (n / columns) rows g) (eqb-true (n % columns) 0 f)
+            ∙ add-zero (rows * columns)))
+
+-- ---- A side in its range
+
+pub side-between : (minus : Bool) (side : ℕ) → (not minus && (leb 100000 side && leb side 20000000)) ≡ (leZ (pos 100000) (signed minus side) && leZ (signed minus side) (pos 20000000))
+unfolding signed
+side-between false side = refl
+side-between true zero = refl
+side-between true (suc n) = refl
+
+-- ---- What is decided
+
+-- what a text has that is read
+pub record Passes (text : List ℕ) (n columns rows at : ℕ) : Type 0 where
+  pub within : at ≤ length text
+  pub wide : columns ≤ 128
+  pub high : rows ≤ 128
+  pub columns-are : columns ≡ columnsIn (wordsOf text)
+  pub rows-are : rows ≡ rowsIn (wordsOf text)
+  pub long : n ≡ rows * columns
+  pub values : wordsOf (drop at text) ≡ valueWords (wordsOf text)
+  pub count : length (valueWords (wordsOf text)) ≡ rows * columns
+  pub decimals : (k : ℕ) → k < rows * columns → isDecimal (word (valueWords (wordsOf text)) k) ≡ true
+  pub small : (k : ℕ) → k < rows * columns → natAbs (decimalValue (word (valueWords (wordsOf text)) k)) ≤ 50000000
+
+pub record Decided (text : List ℕ) (n number columns rows side at : ℕ) : Type 0 where
+  pub is : number ≡ rasterNumber text n
+  pub columns-are : columns ≡ ifDone number (columnsIn (wordsOf text)) 0
+  pub rows-are : rows ≡ ifDone number (rowsIn (wordsOf text)) 0
+  pub side-is : side ≡ ifDone number (natAbs (sideIn (wordsOf text))) 0
+  pub passes : number ≡ 0 → Passes text n columns rows at
+
+pub decided-refused : (text : List ℕ) (n number at : ℕ) → number ≡ rasterNumber text n → (number ≡ 0 → ⊥) → Decided text n number 0 0 0 at
+decided-refused text n number at e h = record {
+  is = e;
+  columns-are = sym (if-refused number (columnsIn (wordsOf text)) 0 h);
+  rows-are = sym (if-refused number (rowsIn (wordsOf text)) 0 h);
+  side-is = sym (if-refused number (natAbs (sideIn (wordsOf text))) 0 h);
+  passes = λ z. absurd (h z);
+}
+
+-- a text whose keys are not a raster's
+pub no-head : (text : List ℕ) (n : ℕ) → headFits (wordsOf text) ≡ false → 10 ≡ rasterNumber text n
+unfolding rasterNumber rasterNumberOf isRaster
+no-head text n e = sym (rw e)
+
+value-at : (ws : List (List ℕ)) (k : ℕ) → getD (valuesIn ws) k (pos 0) ≡ decimalValue (word (valueWords ws) k)
+unfolding valuesIn decimalValue signed isMinus unsigned sizeOf numberOf numberBehind digitsFront digitsRest fraction
+value-at ws k = List·getD-map decimalValue (valueWords ws) k []
+
+module _ {text : List ℕ} {fits : Bool} {columns rows : ℕ} {minus : Bool} {side : ℕ} {lacks lackMinus : Bool} {lack end : ℕ} {decimals : Bool} {count : ℕ} {fit : Bool}
+    (h : Headed text fits columns rows minus side lacks lackMinus lack end)
+    (l : Looked (wordsOf (drop end text)) lacks (signed lackMinus lack) decimals count fit)
+    (f : fits ≡ true) where
+  abbrev ws : List (List ℕ)
+  ws = wordsOf text
+
+  abbrev values : List (List ℕ)
+  values = valueWords ws
+
+  -- the look was over the values
+  l′ : Looked values lacks (signed lackMinus lack) decimals count fit
+  l′ = subst (λ (v : List (List ℕ)). Looked v lacks (signed lackMinus lack) decimals count fit) (h .values f) l
+
+  cells : rows * columns ≡ rowsIn ws * columnsIn ws
+  cells = ap₂ _*_ (h .rows-are f) (h .columns-are f)
+
+  raster-is : (decimals && eqb count (rows * columns)) ≡ isRaster ws
+  unfolding isRaster
+  raster-is =
+      go decimals refl
+      ∙ ap₂ (λ (s t : Bool). s && t && eqb (length values) (rowsIn ws * columnsIn ws)) (sym f ∙ h .says) (l′ .says)
+    where
+      go : (t : Bool) → decimals ≡ t → (t && eqb count (rows * columns)) ≡ (t && eqb (length values) (rowsIn ws * columnsIn ws))
+      go true e = ap₂ eqb (l′ .counted e) cells
+      go false e = refl
+
+  sizes-are : (within 1 128 columns && within 1 128 rows && (leZ (pos 100000) (signed minus side) && leZ (signed minus side) (pos 20000000))) ≡ rasterSizesFit ws
+  unfolding rasterSizesFit
+  sizes-are =
+      ap₂ (λ (c r : ℕ). within 1 128 c && within 1 128 r && (leZ (pos 100000) (signed minus side) && leZ (signed minus side) (pos 20000000))) (h .columns-are f) (h .rows-are f)
+      ∙ ap (λ (s : ℤ). within 1 128 (columnsIn ws) && within 1 128 (rowsIn ws) && (leZ (pos 100000) s && leZ s (pos 20000000))) (h .side-is f)
+
+  -- the no-data value is compared only where one is given
+  one-fits : (z : ℤ) → valueFits lacks (signed lackMinus lack) z ≡ (groundFits z && not (isNoData ws z))
+  unfolding isNoData
+  one-fits z = ap (λ (t : Bool). groundFits z && not t) (go lacks refl ∙ ap (λ (t : Bool). t && (leZ z (noDataIn ws) && leZ (noDataIn ws) z)) (h .lacks-so f))
+    where
+      go : (t : Bool) → lacks ≡ t → (t && (leZ z (signed lackMinus lack) && leZ (signed lackMinus lack) z)) ≡ (t && (leZ z (noDataIn ws) && leZ (noDataIn ws) z))
+      go true e = ap (λ (y : ℤ). leZ z y && leZ y z) (h .lack-is f e)
+      go false e = refl
+
+  values-fit : decimals ≡ true → fit ≡ rasterValuesFit ws
+  unfolding rasterValuesFit
+  values-fit e =
+      l′ .fits e
+      ∙ all-same (length values) _ _
+      (λ k b. one-fits (decimalValue (word values k)) ∙ ap (λ (z : ℤ). groundFits z && not (isNoData ws z)) (sym (value-at ws k)))
+
+  -- the number, from the four tests
+  pub number-is : (n : ℕ) {sizes counts : Bool} {number : ℕ}
+      → sizes ≡ (within 1 128 columns && within 1 128 rows && (leZ (pos 100000) (signed minus side) && leZ (signed minus side) (pos 20000000)))
+      → counts ≡ eqb count (rows * columns)
+      → number ≡ cond (decimals && counts) (firstOf sizes (eqb n count) fit) 10
+      → number ≡ rasterNumber text n
+  unfolding rasterNumber rasterNumberOf
+  number-is n {sizes} {counts} s c e =
+      e
+      ∙ ap (λ (t : Bool). cond t (firstOf sizes (eqb n count) fit) 10) (ap (λ (t : Bool). decimals && t) c ∙ raster-is)
+      ∙ go (isRaster ws) refl
+    where
+      go : (t : Bool) → isRaster ws ≡ t → cond t (firstOf sizes (eqb n count) fit) 10 ≡ cond t (firstOf (rasterSizesFit ws) (eqb n (rowsIn ws * columnsIn ws)) (rasterValuesFit ws)) 10
+      go false g = refl
+      go true g =
+          let both = to-T (raster-is ∙ g) in
+          let d : decimals ≡ true = true-of decimals (and-left decimals (eqb count (rows * columns)) both) in
+          let q : count ≡ rowsIn ws * columnsIn ws = eqb-true count (rows * columns) (true-of (eqb count (rows * columns)) (and-right decimals (eqb count (rows * columns)) both)) ∙ cells in
+          ap₂ (λ (a b : Bool). firstOf a b fit) (s ∙ sizes-are) (ap (eqb n) q) ∙ ap (firstOf (rasterSizesFit ws) (eqb n (rowsIn ws * columnsIn ws))) (values-fit d)
+
+  -- where the number is 0, every test has passed
+  is-raster : (n : ℕ) → rasterNumber text n ≡ 0 → isRaster ws ≡ true
+  unfolding rasterNumber rasterNumberOf
+  is-raster n z = go (isRaster ws) refl
+    where
+      go : (t : Bool) → isRaster ws ≡ t → isRaster ws ≡ true
+      go true e = e
+      go false e = absurd (suc-ne-zero 9 (sym (ap (λ (t : Bool). cond t (firstOf (rasterSizesFit ws) (eqb n (rowsIn ws * columnsIn ws)) (rasterValuesFit ws)) 10) e) ∙ z))
+
+  three : (n : ℕ) → rasterNumber text n ≡ 0 → Passed (rasterSizesFit ws) (eqb n (rowsIn ws * columnsIn ws)) (rasterValuesFit ws)
+  unfolding rasterNumber rasterNumberOf
+  three n z =
+      apart (rasterSizesFit ws) (eqb n (rowsIn ws * columnsIn ws)) (rasterValuesFit ws)
+      (sym (ap (λ (t : Bool). cond t (firstOf (rasterSizesFit ws) (eqb n (rowsIn ws * columnsIn ws)) (rasterValuesFit ws)) 10) (is-raster n z)) ∙ z)
+
+  pub side-small : (n : ℕ) → rasterNumber text n ≡ 0 → side ≤ 20000000
+  unfolding rasterSizesFit
+  side-small n z =
+      let sizes = within 1 128 (columnsIn ws) && within 1 128 (rowsIn ws) in
+      let ends = leb 100000 side && leb side 20000000 in
+      let fits = and-right sizes (leZ (pos 100000) (sideIn ws) && leZ (sideIn ws) (pos 20000000)) (to-T (three n z .card)) in
+      let here : T (not minus && ends) = subst T (sym (side-between minus side ∙ ap (λ (y : ℤ). leZ (pos 100000) y && leZ y (pos 20000000)) (h .side-is f))) fits in
+      leb→le side 20000000 (and-right (leb 100000 side) (leb side 20000000) (and-right (not minus) ends here))
+
+  -- a text that is read
+  pub passed : (n : ℕ) → rasterNumber text n ≡ 0 → Passes text n columns rows end
+  unfolding isRaster rasterSizesFit rasterValuesFit
+  passed n z =
+      let raster = is-raster n z in
+      let tests = three n z in
+      let wide = within 1 128 (columnsIn ws) in
+      let high = within 1 128 (rowsIn ws) in
+      let side = leZ (pos 100000) (sideIn ws) && leZ (sideIn ws) (pos 20000000) in
+      let sizes = and-left (wide && high) side (to-T (tests .card)) in
+      let all-decimal = all (length values) (λ k. isDecimal (word values k)) in
+      let head = headFits ws && all-decimal in
+      let many = eqb (length values) (rowsIn ws * columnsIn ws) in
+      let long : length values ≡ rows * columns = eqb-true (length values) (rowsIn ws * columnsIn ws) (true-of many (and-right head many (to-T raster))) ∙ sym cells in
+      record {
+        within = h .within;
+        wide = rw (h .columns-are f) (leb→le (columnsIn ws) 128 (and-right (leb 1 (columnsIn ws)) (leb (columnsIn ws) 128) (and-left wide high sizes)));
+        high = rw (h .rows-are f) (leb→le (rowsIn ws) 128 (and-right (leb 1 (rowsIn ws)) (leb (rowsIn ws) 128) (and-right wide high sizes)));
+        columns-are = h .columns-are f;
+        rows-are = h .rows-are f;
+        long = eqb-true n (rowsIn ws * columnsIn ws) (tests .lengths) ∙ sym cells;
+        values = h .values f;
+        count = long;
+        decimals = λ k b.
+            true-of (isDecimal (word values k))
+            (all-at (length values) (λ k. isDecimal (word values k)) (and-right (headFits ws) all-decimal (and-left head many (to-T raster))) k (omega (arith, b, long)));
+        small = λ k b.
+            let t = all-at (length values) (λ k. groundFits (getD (valuesIn ws) k (pos 0)) && not (isNoData ws (getD (valuesIn ws) k (pos 0)))) (to-T (tests .values)) k (omega (arith, b, long)) in
+            subst (λ (y : ℤ). natAbs y ≤ 50000000) (value-at ws k)
+            (leb→le (natAbs (getD (valuesIn ws) k (pos 0))) 50000000 (and-left (groundFits (getD (valuesIn ws) k (pos 0))) (not (isNoData ws (getD (valuesIn ws) k (pos 0)))) t));
+      }
+
+  pub decided : (n : ℕ) → rasterNumber text n ≡ 0 → Decided text n 0 columns rows side end
+  unfolding ifDone
+  decided n z = record {
+    is = sym z;
+    columns-are = h .columns-are f;
+    rows-are = h .rows-are f;
+    side-is = sym (size-signed minus side) ∙ ap natAbs (h .side-is f);
+    passes = λ e. passed n z;
+  }
