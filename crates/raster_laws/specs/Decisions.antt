@@ -13,7 +13,9 @@ use lib.Dec.{T, leb, eqb, leb→le}
 use borrow.Author.Tests.{eqb-true, eqb-false, eq-eqb, ne-eqb}
 use Rattle.rules.specs.Site.{within, firstOf, groundFits, ifDone}
 use Rattle.rules.specs.Grid.{all}
-use Rattle.rules.specs.Raster.{wordsOf, word, isDecimal, decimalValue, signed, hasNoData, headFits, columnsIn, rowsIn, sideIn, noDataIn, valueWords, valuesIn, isRaster, rasterSizesFit, isNoData, rasterValuesFit, rasterNumberOf, rasterNumber, unsigned, isMinus, sizeOf, numberOf, numberBehind, digitsFront, digitsRest, fraction}
+use Rattle.rules.specs.Raster.{wordsOf, word, isDecimal, decimalValue, signed, hasNoData, headFits, columnsIn, rowsIn, sideIn, noDataIn, valueWords, valuesIn, isRaster, rasterSizesFit, isNoData, rasterValuesFit, rasterNumberOf, rasterNumber, rasterGround, unsigned, isMinus, sizeOf, numberOf, numberBehind, digitsFront, digitsRest, fraction}
+use Rattle.rules.specs.Calls.{readRasterAnswer, readRasterGround}
+use Rattle.rules.specs.Contracts.{ReadRasterContract}
 use Rattle.laws.specs.Tests.{and-left, and-right, to-T, true-of}
 use Rattle.laws.specs.Grids.{all-at, all-same}
 use Rattle.laws.specs.Checks.{Passed, apart}
@@ -231,4 +233,24 @@ module _ {text : List ℕ} {fits : Bool} {columns rows : ℕ} {minus : Bool} {si
     rows-are = h .rows-are f;
     side-is = sym (size-signed minus side) ∙ ap natAbs (h .side-is f);
     passes = λ e. passed n z;
+  }
+
+-- ---- What the reader answers and leaves, from what is decided
+
+module _ (text : List ℕ) (ground : List ℤ) {number columns rows side at : ℕ} (d : Decided text (length ground) number columns rows side at) where
+  -- a count that is 0 where the number refuses
+  told : {k : ℕ} (done : ℕ) → k ≡ ifDone number done 0 → k ≡ ifDone (rasterNumber text (length ground)) done 0
+  told done e = e ∙ ap (λ (n : ℕ). ifDone n done 0) (d .is)
+
+  pub answered : {left : List ℤ} → left ≡ ifDone number (rasterGround (wordsOf text)) ground
+      → ReadRasterContract text ground (record { number = number; columns = columns; rows = rows; side = side }) left
+  unfolding readRasterAnswer readRasterGround
+  answered {left} e = record {
+    answer = λ i. record {
+      number = d .is i;
+      columns = told (columnsIn (wordsOf text)) (d .columns-are) i;
+      rows = told (rowsIn (wordsOf text)) (d .rows-are) i;
+      side = told (natAbs (sideIn (wordsOf text))) (d .side-is) i;
+    };
+    ground-exit = e ∙ ap (λ (n : ℕ). ifDone n (rasterGround (wordsOf text)) ground) (d .is);
   }

@@ -6,3 +6,4 @@ pub mod Fields
 pub mod Heads
 pub mod Looks
 pub mod Decisions
+pub mod Filled
