@@ -53,7 +53,7 @@ number-more n d ds = refl
 pub digit-low : (b : ℕ) → isDigit b ≡ true → 48 ≤ b
 digit-low b e = leb→le 48 b (and-left (leb 48 b) (leb b 57) (to-T e))
 
-digit-high : (b : ℕ) → isDigit b ≡ true → b ≤ 57
+pub digit-high : (b : ℕ) → isDigit b ≡ true → b ≤ 57
 digit-high b e = leb→le b 57 (and-right (leb 48 b) (leb b 57) (to-T e))
 
 -- one digit more stays small, and so do 19 of them

@@ -7,3 +7,10 @@ pub mod Heads
 pub mod Looks
 pub mod Decisions
 pub mod Filled
+pub mod Spelled
+pub mod Figures
+pub mod Metres
+pub mod Turned
+pub mod Written
+pub mod Reread
+pub mod ReadBack

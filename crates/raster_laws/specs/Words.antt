@@ -24,7 +24,7 @@ pub record Skipping (text : List ℕ) (at i : ℕ) : Type 0 where
   pub within : i ≤ length text
   pub words : wordsOf (drop i text) ≡ wordsOf (drop at text)
 
-words-parted : (b : ℕ) (text : List ℕ) → partsWords b ≡ true → wordsOf (b ∷ text) ≡ wordsOf text
+pub words-parted : (b : ℕ) (text : List ℕ) → partsWords b ≡ true → wordsOf (b ∷ text) ≡ wordsOf text
 unfolding wordsOf wordsBehind ended
 words-parted b text e = rw e
 
@@ -77,7 +77,7 @@ pub record Spelling (text : List ℕ) (at i : ℕ) : Type 0 where
   pub within : i ≤ length text
   pub words : wordsOf (drop at text) ≡ wordsBehind (between text at i) (drop i text)
 
-words-longer : (begun : List ℕ) (b : ℕ) (text : List ℕ) → partsWords b ≡ false → wordsBehind begun (b ∷ text) ≡ wordsBehind (begun ++ (b ∷ [])) text
+pub words-longer : (begun : List ℕ) (b : ℕ) (text : List ℕ) → partsWords b ≡ false → wordsBehind begun (b ∷ text) ≡ wordsBehind (begun ++ (b ∷ [])) text
 unfolding wordsBehind
 words-longer begun b text e = rw e
 
@@ -98,7 +98,7 @@ unfolding ended
 ended-some [] ws h = absurd (omega arith)
 ended-some (b ∷ bs) ws h = refl
 
-word-ends : (w : List ℕ) (b : ℕ) (text : List ℕ) → 0 < length w → partsWords b ≡ true → wordsBehind w (b ∷ text) ≡ w ∷ wordsOf (b ∷ text)
+pub word-ends : (w : List ℕ) (b : ℕ) (text : List ℕ) → 0 < length w → partsWords b ≡ true → wordsBehind w (b ∷ text) ≡ w ∷ wordsOf (b ∷ text)
 unfolding wordsBehind wordsOf ended
 word-ends w b text h e = rw e (ended-some w (wordsBehind [] text) h)
 
