@@ -3,7 +3,7 @@ mod counts;
 mod signs;
 mod sizes;
 
-pub use counts::count_in;
 pub use counts::Count;
-pub use signs::decimal_in;
+pub use counts::count_in;
 pub use signs::Decimal;
+pub use signs::decimal_in;

@@ -79,7 +79,7 @@ bytes-swapped n m h e =
 -- ---- four elements, each set behind the one before
 
 module _ {A : Type 0} (old : List A) where
-  one-laid : (m : ℕ) (v : A) → m < length old → set old m v ≡ laid old m (v ∷ [])
+  pub one-laid : (m : ℕ) (v : A) → m < length old → set old m v ≡ laid old m (v ∷ [])
   one-laid m v h = sym (laid-none (set old m v) m) ∙ laid-last old m [] v m (sym (add-zero m)) h
 
 module _ {A : Type 0} (old : List A) (at : ℕ) where

@@ -17,7 +17,7 @@ pub fn append(text: &[u8], out: &mut [u8], at: usize) -> usize
     at + k
 }
 
-fn append_decimal(n: u32, out: &mut [u8], at: usize) -> usize
+pub fn append_decimal(n: u32, out: &mut [u8], at: usize) -> usize
     requires { ⌜ at + 10 ≤ length (now out) ⌝ }
     ensures text { λ r. ⌜ Appended (decimal n) at r (now (out .entry)) (now (out .exit)) ⌝ }
     ensures end { λ r. ⌜ r ≤ at + 10 ⌝ }
@@ -55,7 +55,7 @@ pub fn refused_line(number: u32, out: &mut [u8]) -> usize
 }
 
 // The size of a number, which may be negative.
-fn size(top: i32) -> u32
+pub fn size(top: i32) -> u32
     ensures { λ r. ⌜ r ≡ natAbs top ⌝ }
 {
     let wide = top as i64;

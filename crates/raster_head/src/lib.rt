@@ -3,5 +3,5 @@ mod fields;
 mod head;
 mod keys;
 
-pub use head::head_in;
 pub use head::Head;
+pub use head::head_in;

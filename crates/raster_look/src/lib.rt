@@ -3,5 +3,5 @@ mod decisions;
 mod product;
 mod values;
 
-pub use decisions::decide;
 pub use decisions::Decision;
+pub use decisions::decide;

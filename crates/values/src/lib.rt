@@ -24,7 +24,7 @@ pub fn height_fits(h: i32) -> bool
 }
 
 // Whether n words from `start` on lie in one range. It reads them all, whatever it finds: so the loop has no branch.
-fn all_between(s: &[i32], start: usize, n: usize, low: i32, high: i32) -> bool
+pub fn all_between(s: &[i32], start: usize, n: usize, low: i32, high: i32) -> bool
     requires { ⌜ start + n ≤ length (now s) ⌝ }
     ensures { λ r. ⌜ r ≡ all n (λ k. between low high (getD (now (s .entry)) (start + k) (pos 0))) ⌝ }
 {

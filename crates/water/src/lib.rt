@@ -1,10 +1,11 @@
 // What a host may call. Every call takes any input at all: it checks what it was given and answers by document 01's numbers, and its contract
 // (rules, Contracts.antt) fixes the answer and what each list that was lent to be written holds at exit.
-ghost use Rattle.rules.specs.Contracts.{StepContract, TextbookContract, RunContract, SearchContract, RowSearchContract, ReadContract, WriteContract, TextContract, KindContract};
+ghost use Rattle.rules.specs.Contracts.{StepContract, TextbookContract, RunContract, SearchContract, RowSearchContract, ReadContract, WriteContract, TextContract, KindContract, ReadRasterContract, WriteRasterContract};
 use rules::Card;
 use rules::Chamber;
 use rules::Found;
 use rules::Heard;
+use rules::Raster;
 use rules::Staff;
 use rules::Tally;
 use rules::Window;
@@ -142,4 +143,21 @@ pub extern "C" fn water_staff(kind: u32, value: f64) -> Staff
     ensures { λ r. ⌜ KindContract kind value r ⌝ }
 {
     staff::staff_of_kind(kind, value)
+}
+
+// The ground of a surveyor's raster: the number, columns, rows and the side of a cell, and the levels in the lent list, which has columns · rows words. Refused: all 0,
+// the list as lent.
+#[no_mangle]
+pub extern "C" fn water_read_raster(text: &[u8], ground: &mut [i32]) -> Raster
+    ensures { λ r. ⌜ ReadRasterContract (now (text .entry)) (now (ground .entry)) r (now (ground .exit)) ⌝ }
+{
+    raster_reader::read_raster(text, ground)
+}
+
+// The raster of a ground whose cells are square: the number and the size, and the text in front of the lent list. Refused: size 0, the text as lent.
+#[no_mangle]
+pub extern "C" fn water_write_raster(card: Card, ground: &[i32], text: &mut [u8]) -> Wrote
+    ensures { λ r. ⌜ WriteRasterContract card (now (ground .entry)) (now (text .entry)) r (now (text .exit)) ⌝ }
+{
+    raster_writer::write_raster(card, ground, text)
 }

@@ -1,0 +1,5 @@
+pub mod Laws
+pub mod Lengths
+pub mod KeyPieces
+pub mod Rows
+pub mod Numbers
