@@ -1,7 +1,6 @@
 // A decimal: an optional minus in front of its size.
 ghost use mathlib.Core.Path.{_≡_};
 ghost use mathlib.Core.Bool.{cond};
-ghost use lib.ListN.{length};
 ghost use Rattle.rules.specs.Raster.{isMinus, unsigned, sizeOf, isDecimal};
 use crate::sizes;
 

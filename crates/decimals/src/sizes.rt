@@ -2,8 +2,8 @@
 ghost use mathlib.Core.Path.{_≡_};
 ghost use mathlib.Core.Bool.{cond};
 ghost use Prim.Native.Nat.{_+_, _*_, _-_, _^_, _≤_, _<_};
-ghost use lib.ListN.{length, drop};
-ghost use Rattle.rules.specs.Raster.{sizeFits, sizeOf, fractionFits, fraction};
+ghost use lib.ListN.{drop};
+ghost use Rattle.rules.specs.Raster.{unsignedFits, sizeOf, fractionFits, fraction};
 ghost use Rattle.raster_laws.specs.Digits.{Behind};
 use crate::counts;
 
@@ -59,7 +59,7 @@ fn fraction_from(word: &[u8], at: usize, number: u64) -> Sized
 }
 
 pub fn size_in(word: &[u8]) -> Sized
-    ensures fits { λ r. ⌜ r .fits ≡ sizeFits (now (word .entry)) ⌝ }
+    ensures fits { λ r. ⌜ r .fits ≡ unsignedFits (now (word .entry)) ⌝ }
     ensures size { λ r. ⌜ r .size ≡ cond (r .fits) (sizeOf (now (word .entry))) 0 ⌝ }
 {
     if 19 < word.len() {

@@ -43,3 +43,4 @@ pub mod Searches
 pub mod Texts
 pub mod StaffOrder
 pub mod Staffs
+pub mod Rasters

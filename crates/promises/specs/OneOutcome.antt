@@ -13,8 +13,9 @@ use Rattle.rules.specs.declared.Heard.{Heard}
 use Rattle.rules.specs.declared.Wrote.{Wrote}
 use Rattle.rules.specs.declared.Reading.{Reading}
 use Rattle.rules.specs.declared.Staff.{Staff}
+use Rattle.rules.specs.declared.Raster.{Raster}
 use Rattle.rules.specs.Step.{Rule}
-use Rattle.rules.specs.Contracts.{StepContractBy, RunContract, SearchContract, RowSearchContract, ReadContract, WriteContract, TextContract, StaffContract, KindContract}
+use Rattle.rules.specs.Contracts.{StepContractBy, RunContract, SearchContract, RowSearchContract, ReadContract, WriteContract, TextContract, StaffContract, KindContract, ReadRasterContract, WriteRasterContract}
 
 -- ---- step, by either engine
 
@@ -61,3 +62,15 @@ one-staff p q = cc
 
 pub one-kind : {k : ℕ} {v : Float} {a a′ : Staff} → KindContract k v a → KindContract k v a′ → a ≡ a′
 one-kind p q = cc
+
+-- ---- raster reader
+
+pub one-raster-reading : {text : List ℕ} {g : List ℤ} {a a′ : Raster} {v v′ : List ℤ}
+    → ReadRasterContract text g a v → ReadRasterContract text g a′ v′ → (a ≡ a′) × (v ≡ v′)
+one-raster-reading p q = (cc, cc)
+
+-- ---- raster writer
+
+pub one-raster-writing : {c : Card} {g : List ℤ} {text : List ℕ} {a a′ : Wrote} {v v′ : List ℕ}
+    → WriteRasterContract c g text a v → WriteRasterContract c g text a′ v′ → (a ≡ a′) × (v ≡ v′)
+one-raster-writing p q = (cc, cc)

@@ -23,9 +23,9 @@ use Rattle.promises.specs.NeverInTheMiddle.{keeps, Ends, ends}
 use Rattle.promises.specs.StepsWanted.{wanting}
 use Rattle.promises.specs.SiteSlices.{runsJoined, site-in-slices}
 -- of each public call: any two outcomes that its contract allows are equal, refused calls too
-pub use Rattle.promises.specs.OneOutcome.{one-step, one-run, one-search, one-row-search, one-reading, one-writing, one-text, one-staff, one-kind}
+pub use Rattle.promises.specs.OneOutcome.{one-step, one-run, one-search, one-row-search, one-reading, one-writing, one-text, one-staff, one-kind, one-raster-reading, one-raster-writing}
 -- and a refused call leaves every list as it was lent
-pub use Rattle.promises.specs.Refused.{step-refused, run-refused, scratch-zero, search-refused, no-count, read-refused, write-refused}
+pub use Rattle.promises.specs.Refused.{step-refused, run-refused, scratch-zero, search-refused, no-count, read-refused, write-refused, raster-read-refused, raster-write-refused}
 -- the depth text's part is empty, and its scratch as lent, exactly if the height is out of range or the scratch is shorter than the text
 pub use Rattle.promises.specs.Texts.{text-refused, text-refused-only}
 -- of the sheet: write, then read, gives the site back; read, then write, gives the bytes back; each site has one sheet
@@ -63,6 +63,14 @@ pub use Rattle.promises.specs.NoPumps.{no-pumps-step, no-pumps-check, no
 -- of document 02's [1], staff readings: a height differs from its product by at most half a micrometre, is never below it by that, and is one that every other call
 -- takes; a greater value of the same unit never gives a smaller height, and is not read where a smaller one is refused for its product; a refused reading has none
 pub use Rattle.promises.specs.Staffs.{metres-near, feet-near, metres-in-order, feet-in-order, staff-refused, kind-refused}
+-- of document 02's [3], ground from the surveyor's raster: what we write we read back, columns, rows, side and ground, by the public calls
+pub use Rattle.promises.specs.Rasters.{raster-reads-back}
+-- and each value is exact: the number that its digits make, over ten for each digit behind the point, so that nothing is rounded; a minus makes it the negative; and
+-- every decimal is spelled so
+pub use Rattle.promises.specs.Rasters.{point-exact, digits-exact, minus-exact, plain-exact, decimal-spelled}
+-- and of a read that is done: the ground has at each column and row the value that stands there in the text, the northern row first there and last here; columns, rows,
+-- side and ground are in their ranges, so that every call takes them; and no height is the no-data value
+pub use Rattle.promises.specs.Rasters.{value-at, value-decimal, ground-fits, ground-taken, never-no-data}
 
 -- ---- Demand 3
 

@@ -1,4 +1,4 @@
--- A refused call leaves every list as it was lent: document 01's sentences about refusals, each of them read off the definitions of the calls.
+-- A refused call leaves every list as it was lent: the documents' sentences about refusals, each of them read off the definitions of the calls.
 -- Texts.antt has the depth text's.
 use Prim.Native.Nat.{ℕ, _<_}
 use mathlib.Core.Path.{_≡_, ap}
@@ -11,7 +11,8 @@ use Rattle.rules.specs.declared.Window.{Window}
 use Rattle.rules.specs.Step.{Rule}
 use Rattle.rules.specs.Pumps.{checkPumpedWith, PumpedOutcome}
 use Rattle.rules.specs.Sheet.{readNumber, noCard}
-use Rattle.rules.specs.Calls.{stepAnswerBy, stepNextBy, runOutcome, runTally, runState, runScratch, searchNumber, searchFound, searchCheck, searchAnswer, readAnswer, readGroundList, readStateList, writeNumber, writeAnswer, writeBytes}
+use Rattle.rules.specs.Raster.{rasterNumber, rasterTextNumber}
+use Rattle.rules.specs.Calls.{stepAnswerBy, stepNextBy, runOutcome, runTally, runState, runScratch, searchNumber, searchFound, searchCheck, searchAnswer, readAnswer, readGroundList, readStateList, writeNumber, writeAnswer, writeBytes, readRasterAnswer, readRasterGround, writeRasterAnswer, writeRasterText}
 use Rattle.laws.specs.Asked.{places-refused}
 use Rattle.laws.specs.Outcomes.{if-done, if-refused}
 use Rattle.laws.specs.PumpedSteps.{pumped-refused}
@@ -67,3 +68,28 @@ pub record WriteRefused (c : Card) (g s : List ℤ) (bytes : List ℕ) : Type 0 
 pub write-refused : (c : Card) (g s : List ℤ) (bytes : List ℕ) → 0 < writeNumber c g s (length bytes) → WriteRefused c g s bytes
 unfolding writeAnswer writeBytes
 write-refused c g s bytes h = record { size = if-refused _ _ _ (ne-of-gt h); bytes-as-lent = if-refused _ _ _ (ne-of-gt h) }
+
+-- raster reader: columns, rows and side 0, the ground as lent
+pub record RasterReadRefused (text : List ℕ) (g : List ℤ) : Type 0 where
+  pub columns : readRasterAnswer text g .columns ≡ 0
+  pub rows : readRasterAnswer text g .rows ≡ 0
+  pub side : readRasterAnswer text g .side ≡ 0
+  pub ground : readRasterGround text g ≡ g
+
+pub raster-read-refused : (text : List ℕ) (g : List ℤ) → 0 < rasterNumber text (length g) → RasterReadRefused text g
+unfolding readRasterAnswer readRasterGround
+raster-read-refused text g h = record {
+  columns = if-refused _ _ _ (ne-of-gt h);
+  rows = if-refused _ _ _ (ne-of-gt h);
+  side = if-refused _ _ _ (ne-of-gt h);
+  ground = if-refused _ _ _ (ne-of-gt h);
+}
+
+-- raster writer: size 0, the text as lent
+pub record RasterWriteRefused (c : Card) (g : List ℤ) (text : List ℕ) : Type 0 where
+  pub size : writeRasterAnswer c g text .size ≡ 0
+  pub text-as-lent : writeRasterText c g text ≡ text
+
+pub raster-write-refused : (c : Card) (g : List ℤ) (text : List ℕ) → 0 < rasterTextNumber c g (length text) → RasterWriteRefused c g text
+unfolding writeRasterAnswer writeRasterText
+raster-write-refused c g text h = record { size = if-refused _ _ _ (ne-of-gt h); text-as-lent = if-refused _ _ _ (ne-of-gt h) }

@@ -2,26 +2,25 @@
 use Prim.Native.Nat.{ℕ, zero, suc, _+_, _*_, _/_, _%_, _≤_, _<_}
 use mathlib.Core.Path.{_≡_, refl, sym, ap, ap₂, _∙_, subst}
 use mathlib.Core.Bool.{Bool, true, false, cond, not, _&&_}
-use mathlib.Core.List.{List, [], map}
+use mathlib.Core.List.{List, []}
 use native.Mathlib.Omega.{arith}
-use native.Mathlib.Nat.{add-zero, mul-zero, div-add-mod', suc-ne-zero}
+use native.Mathlib.Nat.{add-zero, mul-zero, div-add-mod'}
 use lib.Arith.{digits-div, digits-mod}
 use lib.IntN.{ℤ, pos, natAbs}
 use lib.Signed.{leZ}
-use lib.ListN.{length, getD, drop, List·getD-map}
-use lib.Dec.{T, leb, eqb, leb→le}
-use borrow.Author.Tests.{eqb-true, eqb-false, eq-eqb, ne-eqb}
+use lib.ListN.{length, drop}
+use lib.Dec.{leb, eqb}
+use borrow.Author.Tests.{eqb-true, eqb-false, eq-eqb}
 use Rattle.rules.specs.Site.{within, firstOf, groundFits, ifDone}
-use Rattle.rules.specs.Grid.{all}
-use Rattle.rules.specs.Raster.{wordsOf, word, isDecimal, decimalValue, signed, hasNoData, headFits, columnsIn, rowsIn, sideIn, noDataIn, valueWords, valuesIn, isRaster, rasterSizesFit, isNoData, rasterValuesFit, rasterNumberOf, rasterNumber, rasterGround, unsigned, isMinus, sizeOf, numberOf, numberBehind, digitsFront, digitsRest, fraction}
+use Rattle.rules.specs.Raster.{wordsOf, word, isDecimal, decimalValue, signed, headFits, columnsIn, rowsIn, sideIn, noDataIn, valueWords, valuesIn, isRaster, rasterSizesFit, isNoData, rasterValuesFit, rasterNumberOf, rasterNumber, rasterGround}
 use Rattle.rules.specs.Calls.{readRasterAnswer, readRasterGround}
 use Rattle.rules.specs.Contracts.{ReadRasterContract}
 use Rattle.laws.specs.Tests.{and-left, and-right, to-T, true-of}
-use Rattle.laws.specs.Grids.{all-at, all-same}
-use Rattle.laws.specs.Checks.{Passed, apart}
-use Rattle.laws.specs.Outcomes.{if-done, if-refused}
+use Rattle.laws.specs.Grids.{all-same}
+use Rattle.laws.specs.Outcomes.{if-refused}
 use Rattle.raster_laws.specs.Heads.{Headed}
-use Rattle.raster_laws.specs.Looks.{Looked, valueFits, size-signed}
+use Rattle.raster_laws.specs.Looks.{Looked, valueFits, value-read, size-signed}
+use Rattle.raster_laws.specs.Done.{is-done}
 
 -- ---- A product that is not made
 
@@ -96,10 +95,6 @@ pub no-head : (text : List ℕ) (n : ℕ) → headFits (wordsOf text) ≡ false 
 unfolding rasterNumber rasterNumberOf isRaster
 no-head text n e = sym (rw e)
 
-value-at : (ws : List (List ℕ)) (k : ℕ) → getD (valuesIn ws) k (pos 0) ≡ decimalValue (word (valueWords ws) k)
-unfolding valuesIn decimalValue signed isMinus unsigned sizeOf numberOf numberBehind digitsFront digitsRest fraction
-value-at ws k = List·getD-map decimalValue (valueWords ws) k []
-
 module _ {text : List ℕ} {fits : Bool} {columns rows : ℕ} {minus : Bool} {side : ℕ} {lacks lackMinus : Bool} {lack end : ℕ} {decimals : Bool} {count : ℕ} {fit : Bool}
     (h : Headed text fits columns rows minus side lacks lackMinus lack end)
     (l : Looked (wordsOf (drop end text)) lacks (signed lackMinus lack) decimals count fit)
@@ -143,11 +138,11 @@ module _ {text : List ℕ} {fits : Bool} {columns rows : ℕ} {minus : Bool} {si
       go false e = refl
 
   values-fit : decimals ≡ true → fit ≡ rasterValuesFit ws
-  unfolding rasterValuesFit
+  unfolding rasterValuesFit valuesIn
   values-fit e =
       l′ .fits e
       ∙ all-same (length values) _ _
-      (λ k b. one-fits (decimalValue (word values k)) ∙ ap (λ (z : ℤ). groundFits z && not (isNoData ws z)) (sym (value-at ws k)))
+      (λ k b. one-fits (decimalValue (word values k)) ∙ ap (λ (z : ℤ). groundFits z && not (isNoData ws z)) (sym (value-read values k)))
 
   -- the number, from the four tests
   pub number-is : (n : ℕ) {sizes counts : Bool} {number : ℕ}
@@ -169,60 +164,26 @@ module _ {text : List ℕ} {fits : Bool} {columns rows : ℕ} {minus : Bool} {si
           let q : count ≡ rowsIn ws * columnsIn ws = eqb-true count (rows * columns) (true-of (eqb count (rows * columns)) (and-right decimals (eqb count (rows * columns)) both)) ∙ cells in
           ap₂ (λ (a b : Bool). firstOf a b fit) (s ∙ sizes-are) (ap (eqb n) q) ∙ ap (firstOf (rasterSizesFit ws) (eqb n (rowsIn ws * columnsIn ws))) (values-fit d)
 
-  -- where the number is 0, every test has passed
-  is-raster : (n : ℕ) → rasterNumber text n ≡ 0 → isRaster ws ≡ true
-  unfolding rasterNumber rasterNumberOf
-  is-raster n z = go (isRaster ws) refl
-    where
-      go : (t : Bool) → isRaster ws ≡ t → isRaster ws ≡ true
-      go true e = e
-      go false e = absurd (suc-ne-zero 9 (sym (ap (λ (t : Bool). cond t (firstOf (rasterSizesFit ws) (eqb n (rowsIn ws * columnsIn ws)) (rasterValuesFit ws)) 10) e) ∙ z))
-
-  three : (n : ℕ) → rasterNumber text n ≡ 0 → Passed (rasterSizesFit ws) (eqb n (rowsIn ws * columnsIn ws)) (rasterValuesFit ws)
-  unfolding rasterNumber rasterNumberOf
-  three n z =
-      apart (rasterSizesFit ws) (eqb n (rowsIn ws * columnsIn ws)) (rasterValuesFit ws)
-      (sym (ap (λ (t : Bool). cond t (firstOf (rasterSizesFit ws) (eqb n (rowsIn ws * columnsIn ws)) (rasterValuesFit ws)) 10) (is-raster n z)) ∙ z)
-
-  pub side-small : (n : ℕ) → rasterNumber text n ≡ 0 → side ≤ 20000000
-  unfolding rasterSizesFit
-  side-small n z =
-      let sizes = within 1 128 (columnsIn ws) && within 1 128 (rowsIn ws) in
-      let ends = leb 100000 side && leb side 20000000 in
-      let fits = and-right sizes (leZ (pos 100000) (sideIn ws) && leZ (sideIn ws) (pos 20000000)) (to-T (three n z .card)) in
-      let here : T (not minus && ends) = subst T (sym (side-between minus side ∙ ap (λ (y : ℤ). leZ (pos 100000) y && leZ y (pos 20000000)) (h .side-is f))) fits in
-      leb→le side 20000000 (and-right (leb 100000 side) (leb side 20000000) (and-right (not minus) ends here))
-
   -- a text that is read
+  pub side-small : (n : ℕ) → rasterNumber text n ≡ 0 → side ≤ 20000000
+  unfolding rasterNumber
+  side-small n z = subst (λ (k : ℕ). k ≤ 20000000) (ap natAbs (sym (h .side-is f)) ∙ size-signed minus side) (is-done ws n z .side-high)
+
   pub passed : (n : ℕ) → rasterNumber text n ≡ 0 → Passes text n columns rows end
-  unfolding isRaster rasterSizesFit rasterValuesFit
+  unfolding rasterNumber
   passed n z =
-      let raster = is-raster n z in
-      let tests = three n z in
-      let wide = within 1 128 (columnsIn ws) in
-      let high = within 1 128 (rowsIn ws) in
-      let side = leZ (pos 100000) (sideIn ws) && leZ (sideIn ws) (pos 20000000) in
-      let sizes = and-left (wide && high) side (to-T (tests .card)) in
-      let all-decimal = all (length values) (λ k. isDecimal (word values k)) in
-      let head = headFits ws && all-decimal in
-      let many = eqb (length values) (rowsIn ws * columnsIn ws) in
-      let long : length values ≡ rows * columns = eqb-true (length values) (rowsIn ws * columnsIn ws) (true-of many (and-right head many (to-T raster))) ∙ sym cells in
+      let d = is-done ws n z in
       record {
         within = h .within;
-        wide = rw (h .columns-are f) (leb→le (columnsIn ws) 128 (and-right (leb 1 (columnsIn ws)) (leb (columnsIn ws) 128) (and-left wide high sizes)));
-        high = rw (h .rows-are f) (leb→le (rowsIn ws) 128 (and-right (leb 1 (rowsIn ws)) (leb (rowsIn ws) 128) (and-right wide high sizes)));
+        wide = rw (h .columns-are f) (d .columns-high);
+        high = rw (h .rows-are f) (d .rows-high);
         columns-are = h .columns-are f;
         rows-are = h .rows-are f;
-        long = eqb-true n (rowsIn ws * columnsIn ws) (tests .lengths) ∙ sym cells;
+        long = d .lent ∙ sym cells;
         values = h .values f;
-        count = long;
-        decimals = λ k b.
-            true-of (isDecimal (word values k))
-            (all-at (length values) (λ k. isDecimal (word values k)) (and-right (headFits ws) all-decimal (and-left head many (to-T raster))) k (omega (arith, b, long)));
-        small = λ k b.
-            let t = all-at (length values) (λ k. groundFits (getD (valuesIn ws) k (pos 0)) && not (isNoData ws (getD (valuesIn ws) k (pos 0)))) (to-T (tests .values)) k (omega (arith, b, long)) in
-            subst (λ (y : ℤ). natAbs y ≤ 50000000) (value-at ws k)
-            (leb→le (natAbs (getD (valuesIn ws) k (pos 0))) 50000000 (and-left (groundFits (getD (valuesIn ws) k (pos 0))) (not (isNoData ws (getD (valuesIn ws) k (pos 0)))) t));
+        count = d .count ∙ sym cells;
+        decimals = λ k b. d .decimals k (omega (arith, b, cells));
+        small = λ k b. d .small k (omega (arith, b, cells));
       }
 
   pub decided : (n : ℕ) → rasterNumber text n ≡ 0 → Decided text n 0 columns rows side end

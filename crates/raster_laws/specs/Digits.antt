@@ -1,12 +1,12 @@
 -- Digits: those in front of a word, one after the other, and the number that they are.
-use Prim.Native.Nat.{ℕ, zero, suc, _+_, _*_, _-_, _^_, _≤_, _<_, zero-le}
+use Prim.Native.Nat.{ℕ, suc, _+_, _*_, _-_, _^_, _≤_, _<_}
 use mathlib.Core.Path.{_≡_, refl, sym, ap, _∙_}
 use mathlib.Core.Bool.{Bool, true, false, cond, _&&_}
-use mathlib.Core.List.{List, [], _∷_, _++_}
+use mathlib.Core.List.{List, [], _∷_}
 use native.Mathlib.Omega.{arith}
 use native.Mathlib.Numerals.{add-one}
 use native.Mathlib.Nat.{mul-one, pow-suc, pow-succ', add-zero, zero-add, add-assoc, add-mul, mul-assoc, pow-le-pow-right}
-use lib.ListN.{length, getD, take, drop, drop-of-length-le, length-drop}
+use lib.ListN.{length, getD, drop, drop-of-length-le}
 use lib.Seq.{drop-cons}
 use lib.Dec.{leb, eqb, leb→le, eqb·suc-suc}
 use Rattle.rules.specs.Site.{within}
@@ -122,16 +122,19 @@ all-front (b ∷ bs) = go (isDigit b) (all-front bs)
     go true e = e ∙ sym (eqb·suc-suc (length (digitsFront bs)) (length bs))
     go false e = sym (ne-eqb 0 (suc (length bs)) (λ e′. absurd (omega arith)))
 
-pub front-all : (ds : List ℕ) → allDigits ds ≡ true → digitsFront ds ≡ ds
-unfolding allDigits digitsFront
-front-all [] e = refl
-front-all (b ∷ bs) e = rw (isDigit-is) (ap (λ (l : List ℕ). b ∷ l) (front-all bs rest))
-  where
-    isDigit-is : isDigit b ≡ true
-    isDigit-is = true-of (isDigit b) (and-left (isDigit b) (allDigits bs) (to-T e))
+-- its first byte, and the others
+pub digits-first : (b : ℕ) (bs : List ℕ) → allDigits (b ∷ bs) ≡ true → isDigit b ≡ true
+unfolding allDigits
+digits-first b bs e = true-of (isDigit b) (and-left (isDigit b) (allDigits bs) (to-T e))
 
-    rest : allDigits bs ≡ true
-    rest = true-of (allDigits bs) (and-right (isDigit b) (allDigits bs) (to-T e))
+pub digits-others : (b : ℕ) (bs : List ℕ) → allDigits (b ∷ bs) ≡ true → allDigits bs ≡ true
+unfolding allDigits
+digits-others b bs e = true-of (allDigits bs) (and-right (isDigit b) (allDigits bs) (to-T e))
+
+pub front-all : (ds : List ℕ) → allDigits ds ≡ true → digitsFront ds ≡ ds
+unfolding digitsFront
+front-all [] e = refl
+front-all (b ∷ bs) e = rw (digits-first b bs e) (ap (λ (l : List ℕ). b ∷ l) (front-all bs (digits-others b bs e)))
 
 -- what stands behind the digits in front
 pub rest-is : (w : List ℕ) → digitsRest w ≡ drop (length (digitsFront w)) w

@@ -1,11 +1,10 @@
 -- A key and the word behind it, from a place in a text on: what is found there, and what words are left.
-use Prim.Native.Nat.{ℕ, suc, _+_, _≤_}
+use Prim.Native.Nat.{ℕ, _≤_}
 use mathlib.Core.Path.{_≡_, refl, sym, ap, ap₂, _∙_}
 use mathlib.Core.Bool.{Bool, true, false, cond, not, _&&_, _||_}
 use mathlib.Core.List.{List, []}
 use native.Mathlib.Omega.{arith}
-use lib.IntN.{ℤ}
-use lib.ListN.{length, getD, drop}
+use lib.ListN.{length, drop}
 use lib.Seq.{getD-drop, drop-drop}
 use Rattle.rules.specs.Raster.{wordsOf, word, isKey, nodataValue, digitsFit, numberOf, isDecimal, isMinus, unsigned, sizeOf, signed, decimalValue, countAt, decimalAt}
 use Rattle.laws.specs.Tests.{to-T}

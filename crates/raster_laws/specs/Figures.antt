@@ -11,9 +11,8 @@ use borrow.Author.Tests.{ltb-true, le-leb, ne-eqb}
 use Rattle.rules.specs.Site.{within}
 use Rattle.rules.specs.Text.{digitsOf, decimal}
 use Rattle.rules.specs.Raster.{partsWords, isDigit, digitsFront, digitsRest, allDigits, digitsFit, numberBehind, numberOf}
-use Rattle.laws.specs.Tests.{and-left, and-right, to-T, true-of}
 use Rattle.laws.specs.Decimals.{length-decimal}
-use Rattle.raster_laws.specs.Digits.{digit-low}
+use Rattle.raster_laws.specs.Digits.{digit-low, digits-first, digits-others}
 use Rattle.raster_laws.specs.Sizes.{is-count}
 use Rattle.raster_laws.specs.Spelled.{unparted}
 
@@ -21,14 +20,6 @@ pub within-ends : (low high n : ℕ) → low ≤ n → n ≤ high → within low
 within-ends low high n h k = ap₂ _&&_ (le-leb low n h) (le-leb n high k)
 
 -- ---- Digits and nothing else, taken apart and put together
-
-pub digits-first : (b : ℕ) (bs : List ℕ) → allDigits (b ∷ bs) ≡ true → isDigit b ≡ true
-unfolding allDigits
-digits-first b bs e = true-of (isDigit b) (and-left (isDigit b) (allDigits bs) (to-T e))
-
-pub digits-others : (b : ℕ) (bs : List ℕ) → allDigits (b ∷ bs) ≡ true → allDigits bs ≡ true
-unfolding allDigits
-digits-others b bs e = true-of (allDigits bs) (and-right (isDigit b) (allDigits bs) (to-T e))
 
 digits-append : (ds es : List ℕ) → allDigits ds ≡ true → allDigits es ≡ true → allDigits (ds ++ es) ≡ true
 unfolding allDigits
@@ -63,7 +54,7 @@ module _ (b : ℕ) (rest : List ℕ) (other : isDigit b ≡ false) where
 
 -- ---- The digits of a number
 
-number-append : (n : ℕ) (ds es : List ℕ) → numberBehind n (ds ++ es) ≡ numberBehind (numberBehind n ds) es
+pub number-append : (n : ℕ) (ds es : List ℕ) → numberBehind n (ds ++ es) ≡ numberBehind (numberBehind n ds) es
 unfolding numberBehind
 number-append n [] es = refl
 number-append n (d ∷ ds) es = number-append (n * 10 + (d - 48)) ds es

@@ -1,33 +1,23 @@
 -- The values of a raster that passes, read into a list: one row, and row by row from the north.
-use Prim.Native.Nat.{ℕ, zero, suc, _+_, _*_, _-_, _≤_, _<_}
+use Prim.Native.Nat.{ℕ, suc, _+_, _*_, _-_, _≤_, _<_}
 use mathlib.Core.Path.{_≡_, refl, sym, ap, ap₂, _∙_, subst}
 use mathlib.Core.Bool.{Bool, true, false, cond}
-use mathlib.Core.List.{List, [], _∷_, _++_, map}
+use mathlib.Core.List.{List, [], _∷_, _++_}
 use native.Mathlib.Omega.{arith}
-use native.Mathlib.Numerals.{add-one}
 use native.Mathlib.Nat.{suc-mul, add-mul, zero-mul, mul-le-mul}
 use lib.IntN.{ℤ, pos, natAbs}
-use lib.ListN.{length, getD, set, take, drop, length-drop, length-append, length-map, take-append-drop, drop-of-length-le, List·getD-map}
+use lib.ListN.{length, getD, set, take, drop, length-drop, length-append, length-map, take-append-drop, drop-of-length-le}
 use lib.Seq.{getD-drop, getD-take, drop-drop, drop-at, length-take-le, ext-getD}
-use lib.Arith.{digits-lt}
 use lib.Dec.{ltb}
 use borrow.Author.Tests.{ltb-true, ltb-false}
 use borrow.Rule.Slice.PartMut.{putMid}
 use Rattle.rules.specs.Grid.{grid}
-use Rattle.rules.specs.Raster.{partsWords, wordsOf, word, isDecimal, decimalValue, signed, isMinus, unsigned, sizeOf, numberOf, numberBehind, digitsFront, digitsRest, fraction, valueWords, valuesIn, columnsIn, rowsIn, rowsTurned, rasterGround}
+use Rattle.rules.specs.Raster.{wordsOf, word, isDecimal, decimalValue, signed, isMinus, unsigned, sizeOf, valueWords, valuesIn, rowsTurned, rasterGround}
 use Rattle.laws.specs.Copies.{Copied, begin, more, done}
 use Rattle.laws.specs.Grids.{getD-grid, length-grid}
 use Rattle.raster_laws.specs.Words.{Skipped, WordAt, Word, between, no-words}
-use Rattle.raster_laws.specs.Looks.{met-inside, met-is, met-rest, size-signed}
+use Rattle.raster_laws.specs.Looks.{valuesOf, value-read, met-is, met-rest, size-signed}
 use Rattle.raster_laws.specs.Decisions.{Passes}
-
--- the values of some words, and one of them; a word without bytes has the value 0
-abbrev pub valuesOf : (ws : List (List ℕ)) → List ℤ
-valuesOf ws = map decimalValue ws
-
-pub value-read : (ws : List (List ℕ)) (k : ℕ) → getD (valuesOf ws) k (pos 0) ≡ decimalValue (word ws k)
-unfolding decimalValue signed isMinus unsigned sizeOf numberOf numberBehind digitsFront digitsRest fraction
-value-read ws k = List·getD-map decimalValue ws k []
 
 -- ---- One row
 

@@ -5,7 +5,7 @@ use mathlib.Core.Bool.{Bool, true, false, cond, not, _&&_, _||_}
 use mathlib.Core.List.{List, []}
 use native.Mathlib.Nat.{add-zero}
 use native.Mathlib.Numerals.{add-one}
-use lib.ListN.{length, getD, drop}
+use lib.ListN.{length, drop}
 use lib.Seq.{getD-drop, drop-drop}
 use Rattle.rules.specs.Raster.{wordsOf, word, isKey, ncols, nrows, xllcorner, yllcorner, cellsize, nodataValue, isDecimal, digitsFit, numberOf, signed, decimalValue, countAt, decimalAt, hasNoData, headFits, columnsIn, rowsIn, sideIn, noDataIn, valueWords}
 use Rattle.laws.specs.Tests.{to-T, true-of, and-left}

@@ -1,20 +1,19 @@
 -- The look over a raster's values: each word a decimal, in its range and not the no-data value, one word after the other.
 use Prim.Native.Nat.{ℕ, zero, suc, _+_, _≤_, _<_}
-use mathlib.Core.Path.{_≡_, refl, sym, ap, ap₂, _∙_, subst}
+use mathlib.Core.Path.{_≡_, refl, sym, ap, _∙_, subst}
 use mathlib.Core.Bool.{Bool, true, false, not, _&&_, _||_, and-true, and-false, and-comm}
-use mathlib.Core.List.{List, [], _∷_}
+use mathlib.Core.List.{List, [], _∷_, map}
 use native.Mathlib.Omega.{arith}
-use native.Mathlib.Numerals.{add-one}
 use native.Mathlib.Nat.{add-zero}
-use lib.IntN.{ℤ, pos, negsuc, natAbs, negℤ}
+use lib.IntN.{ℤ, pos, negsuc, natAbs}
 use lib.Signed.{leZ}
-use lib.ListN.{length, getD, drop, length-drop}
+use lib.ListN.{length, getD, drop, length-drop, List·getD-map}
 use lib.Seq.{getD-drop, drop-drop}
 use lib.Dec.{T, leb, eqb, eqb·suc-suc}
 use borrow.Author.Tests.{leb-true, leb-false, eq-eqb, ne-eqb, lt-leb}
 use Rattle.rules.specs.Site.{groundFits}
 use Rattle.rules.specs.Grid.{all}
-use Rattle.rules.specs.Raster.{partsWords, wordsOf, word, isDecimal, decimalValue, signed}
+use Rattle.rules.specs.Raster.{partsWords, wordsOf, word, isDecimal, decimalValue, signed, isMinus, unsigned, sizeOf, numberOf, numberBehind, digitsFront, digitsRest, fraction}
 use Rattle.laws.specs.Tests.{to-T}
 use Rattle.laws.specs.Grids.{all-broken}
 use Rattle.laws.specs.Gather.{Gathered, gather-none, gather-more, gather-all}
@@ -25,6 +24,14 @@ use Rattle.raster_laws.specs.Words.{Skipped, WordAt, Word, between, no-w
 -- in its range, and not the no-data value where one is given
 abbrev pub valueFits : (lacks : Bool) (lack z : ℤ) → Bool
 valueFits lacks lack z = groundFits z && not (lacks && (leZ z lack && leZ lack z))
+
+-- the values of some words, and one of them; a word without bytes has the value 0
+abbrev pub valuesOf : (ws : List (List ℕ)) → List ℤ
+valuesOf ws = map decimalValue ws
+
+pub value-read : (ws : List (List ℕ)) (k : ℕ) → getD (valuesOf ws) k (pos 0) ≡ decimalValue (word ws k)
+unfolding decimalValue signed isMinus unsigned sizeOf numberOf numberBehind digitsFront digitsRest fraction
+value-read ws k = List·getD-map decimalValue ws k []
 
 pub size-signed : (minus : Bool) (n : ℕ) → natAbs (signed minus n) ≡ n
 unfolding signed

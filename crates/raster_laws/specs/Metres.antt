@@ -10,12 +10,12 @@ use lib.ListN.{length, length-append}
 use lib.Dec.{leb}
 use borrow.Author.Tests.{ne-eqb, lt-leb}
 use Rattle.rules.specs.Text.{decimal}
-use Rattle.rules.specs.Raster.{partsWords, isDigit, digitsFront, digitsRest, allDigits, digitsFit, numberBehind, numberOf, isMinus, unsigned, fractionFits, sizeFits, isDecimal, fraction, sizeOf, signed, decimalValue, nodataValue, lower, isKey, metres, signedMetres}
-use Rattle.raster_laws.specs.Digits.{digit-low, digit-high}
+use Rattle.rules.specs.Raster.{partsWords, isDigit, digitsFront, digitsRest, allDigits, digitsFit, numberBehind, numberOf, isMinus, unsigned, fractionFits, unsignedFits, isDecimal, fraction, sizeOf, signed, decimalValue, nodataValue, lower, isKey, metres, signedMetres}
+use Rattle.raster_laws.specs.Digits.{digit-low, digit-high, digits-first}
 use Rattle.raster_laws.specs.Sizes.{unsigned-plain}
 use Rattle.raster_laws.specs.Keys.{lower-other}
 use Rattle.raster_laws.specs.Spelled.{unparted, unparted-append}
-use Rattle.raster_laws.specs.Figures.{digits-first, digit-of, digits-unparted, front-of, rest-of, decimal-digits, decimal-number, decimal-some, decimal-few}
+use Rattle.raster_laws.specs.Figures.{digit-of, digits-unparted, front-of, rest-of, decimal-digits, decimal-number, decimal-some, decimal-few}
 
 -- ---- The six places behind the point
 
@@ -51,8 +51,8 @@ module _ (n : ℕ) where
   unfolding metres
   metres-rest = rest-of 46 (places n) refl whole (decimal-digits (n / 1000000))
 
-  metres-fit : n < 10 ^ 18 → sizeFits (metres n) ≡ true
-  unfolding sizeFits fractionFits digitsFit
+  metres-fit : n < 10 ^ 18 → unsignedFits (metres n) ≡ true
+  unfolding unsignedFits fractionFits digitsFit
   metres-fit h = rw (metres-front, metres-rest, decimal-few (n / 1000000) (omega arith), places-digits n)
 
   metres-size : n < 10 ^ 18 → sizeOf (metres n) ≡ n

@@ -11,7 +11,7 @@ use lib.Dec.{eqb}
 use borrow.Author.Tests.{eq-eqb, le-leb}
 use Rattle.rules.specs.Site.{groundFits}
 use Rattle.rules.specs.Grid.{all}
-use Rattle.rules.specs.Raster.{word, digitsFront, digitsRest, unsigned, fractionFits, sizeFits, isDecimal, decimalValue, nodataValue, lower, isKey, countAt, decimalAt, hasNoData, headFits, columnsIn, rowsIn, sideIn, valueWords, valuesIn, isRaster, rasterSizesFit, isNoData, rasterValuesFit, rasterNumberOf, signedMetres}
+use Rattle.rules.specs.Raster.{word, digitsFront, digitsRest, unsigned, fractionFits, unsignedFits, isDecimal, decimalValue, nodataValue, lower, isKey, countAt, decimalAt, hasNoData, headFits, columnsIn, rowsIn, sideIn, valueWords, valuesIn, isRaster, rasterSizesFit, isNoData, rasterValuesFit, rasterNumberOf, signedMetres}
 use Rattle.laws.specs.Tests.{to-T, true-of}
 use Rattle.laws.specs.Grids.{all-intro}
 use Rattle.laws.specs.Checks.{together}
@@ -48,7 +48,7 @@ values-back (z ∷ zs) h = ap₂ _∷_ (signed-value z (let s = h 0 (omega arith
 
 -- the corner
 corner-decimal : isDecimal (48 ∷ []) ≡ true
-unfolding isDecimal sizeFits unsigned digitsFront digitsRest fractionFits
+unfolding isDecimal unsignedFits unsigned digitsFront digitsRest fractionFits
 corner-decimal = refl
 
 -- ---- The words that are written

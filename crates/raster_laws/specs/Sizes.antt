@@ -1,7 +1,7 @@
 -- Counts and decimals, from the digits that a loop has read: when a word is one, and its number.
 use Prim.Native.Nat.{ℕ, zero, suc, _+_, _*_, _-_, _^_, _≤_, _<_}
 use mathlib.Core.Path.{_≡_, refl, sym, ap, ap₂, _∙_}
-use mathlib.Core.Bool.{Bool, true, false, cond, not, _&&_, _||_, and-false}
+use mathlib.Core.Bool.{Bool, true, false, not, _&&_, _||_, and-false}
 use mathlib.Core.List.{List, [], _∷_}
 use native.Mathlib.Omega.{arith}
 use native.Mathlib.Nat.{mul-assoc, add-mul, pow-suc, pow-le-pow-right}
@@ -12,7 +12,7 @@ use lib.Seq.{drop-cons}
 use lib.Dec.{leb, ltb, eqb, leb→le}
 use borrow.Author.Tests.{eq-eqb, ne-eqb, not-true, not-false, lt-ltb, le-ltb, le-leb, leb-true, leb-false, eqb-true, eqb-false}
 use Rattle.rules.specs.Site.{within}
-use Rattle.rules.specs.Raster.{digitsFront, digitsRest, allDigits, digitsFit, numberBehind, numberOf, isMinus, unsigned, fractionFits, sizeFits, isDecimal, fraction, sizeOf}
+use Rattle.rules.specs.Raster.{digitsFront, digitsRest, allDigits, digitsFit, numberBehind, numberOf, isMinus, unsigned, fractionFits, unsignedFits, fraction, sizeOf}
 use Rattle.laws.specs.Tests.{and-left, and-right, to-T, true-of}
 use Rattle.raster_laws.specs.Digits.{DigitsFrom, Behind, Room, all-front, front-all, rest-is, number-behind}
 
@@ -172,11 +172,11 @@ fraction-short (b ∷ ds) e =
     let t = and-right (eqb b 46) (digitsFit 6 ds) (to-T e) in
     omega (arith, within-high 6 (length ds) (true-of (within 1 6 (length ds)) (and-left (within 1 6 (length ds)) (allDigits ds) t)))
 
-pub long-no : (w : List ℕ) → 19 < length w → sizeFits w ≡ false
-unfolding sizeFits
-long-no w h = go (sizeFits w) refl
+pub long-no : (w : List ℕ) → 19 < length w → unsignedFits w ≡ false
+unfolding unsignedFits
+long-no w h = go (unsignedFits w) refl
   where
-    go : (t : Bool) → sizeFits w ≡ t → t ≡ false
+    go : (t : Bool) → unsignedFits w ≡ t → t ≡ false
     go false e = refl
     go true e =
         let one = within 1 12 (length (digitsFront w)) in
@@ -189,12 +189,12 @@ module _ (w : List ℕ) {made end : ℕ} (d : DigitsFrom w 0 0 made end) where
   ends-at : length (digitsFront w) ≡ end
   ends-at = let e = d .ends in omega arith
 
-  pub no-whole : within 1 12 end ≡ false → sizeFits w ≡ false
-  unfolding sizeFits
+  pub no-whole : within 1 12 end ≡ false → unsignedFits w ≡ false
+  unfolding unsignedFits
   no-whole e = ap (λ (t : Bool). t && fractionFits (digitsRest w)) (ap (within 1 12) ends-at ∙ e)
 
-  pub whole-fits : within 1 12 end ≡ true → sizeFits w ≡ fractionFits (drop end w)
-  unfolding sizeFits
+  pub whole-fits : within 1 12 end ≡ true → unsignedFits w ≡ fractionFits (drop end w)
+  unfolding unsignedFits
   whole-fits e =
       ap (λ (t : Bool). t && fractionFits (digitsRest w)) (ap (within 1 12) ends-at ∙ e)
       ∙ ap fractionFits (rest-is w ∙ ap (λ (k : ℕ). drop k w) ends-at)

@@ -4,7 +4,6 @@ ghost use mathlib.Core.Bool.{not, _&&_};
 ghost use Prim.Native.Nat.{_≤_};
 ghost use lib.ListN.{length, drop};
 ghost use lib.Signed.{leZ};
-ghost use Rattle.rules.specs.Site.{groundFits};
 ghost use Rattle.rules.specs.Raster.{wordsOf, signed};
 ghost use Rattle.raster_laws.specs.Looks.{Looked, valueFits};
 

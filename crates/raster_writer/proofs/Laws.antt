@@ -1,6 +1,7 @@
 -- Bytes laid one behind the other, and the texts of sizes and values taken apart as they are laid.
-use Prim.Native.Nat.{ℕ, suc, _+_, _*_, _/_, _%_, _≤_, _<_}
+use Prim.Native.Nat.{ℕ, zero, suc, _+_, _*_, _/_, _%_, _≤_, _<_}
 use mathlib.Core.Path.{_≡_, refl, sym, ap, _∙_, subst}
+use mathlib.Core.Logic.{_⊎_, inl, inr}
 use mathlib.Core.Bool.{Bool, true, false, cond}
 use mathlib.Core.List.{List, [], _∷_, _++_}
 use native.Mathlib.Omega.{arith}
@@ -8,7 +9,7 @@ use lib.IntN.{ℤ, pos, negsuc, natAbs}
 use lib.Signed.{ltZ}
 use lib.ListN.{length, set, length-append}
 use borrow.Author.Tests.{ltb-true, eq-eqb, ne-eqb}
-use native.Mathlib.Nat.{suc-mul, mul-le-mul, le-refl}
+use native.Mathlib.Nat.{suc-mul, mul-le-mul, le-refl, eq-or-lt-of-le}
 use native.Mathlib.Numerals.{add-one}
 use Rattle.rules.specs.Text.{decimal}
 use Rattle.rules.specs.Raster.{metres, signedMetres}
@@ -90,6 +91,18 @@ pub inside-row : (columns i : ℕ) → (i + 1 ≡ columns → ⊥) → 32 ≡ be
 inside-row columns i n = sym (ap (λ (t : Bool). cond t 10 32) (ne-eqb (suc i) columns (λ e. n (omega (arith, e)))))
 
 -- ---- A loop that lays one piece of a text behind the other, and one that adds up how long they are; `text i` is the first i pieces
+
+-- what is laid first is with its next piece not longer than all
+pub piece-within : (text piece : ℕ → List ℕ) → ((n : ℕ) → length (text (n + 1)) ≡ length (text n) + length (piece n)) → (i n : ℕ) → i < n → length (text i) + length (piece i) ≤ length (text n)
+piece-within text piece e i zero h = absurd (omega arith)
+piece-within text piece e i (suc n) h = go (λ l. piece-within text piece e i n l) (eq-or-lt-of-le (let k : i ≤ n = omega arith in k))
+  where
+    last : length (text (suc n)) ≡ length (text n) + length (piece n)
+    last = ap (λ (k : ℕ). length (text k)) (sym (add-one n)) ∙ e n
+
+    go : (i < n → length (text i) + length (piece i) ≤ length (text n)) → (i ≡ n) ⊎ (i < n) → length (text i) + length (piece i) ≤ length (text (suc n))
+    go before (inl f) = rw f (omega (arith, last))
+    go before (inr l) = omega (arith, last, before l)
 
 pub record Laying (text : ℕ → List ℕ) (n at : ℕ) (old new : List ℕ) (end i : ℕ) : Type 0 where
   pub most : i ≤ n

@@ -1,5 +1,5 @@
 -- How long the text of a size and of a value is.
-use Prim.Native.Nat.{ℕ, suc, _+_, _/_, _≤_, _<_}
+use Prim.Native.Nat.{ℕ, _+_, _/_, _≤_, _<_}
 use mathlib.Core.Path.{_≡_, refl, sym, ap, _∙_}
 use mathlib.Core.Bool.{Bool, true, false}
 use native.Mathlib.Omega.{arith}
@@ -7,7 +7,6 @@ use lib.IntN.{ℤ, pos, negsuc, natAbs}
 use lib.ListN.{length, length-append}
 use lib.Dec.{ltb}
 use borrow.Author.Tests.{ltb-true, ltb-false}
-use Rattle.rules.specs.Text.{decimal}
 use Rattle.rules.specs.Raster.{metres, signedMetres}
 use Rattle.laws.specs.Decimals.{decimal-one}
 use Rattle.raster_writer.specs.Lines.{minusText}

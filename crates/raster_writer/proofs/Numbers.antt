@@ -1,18 +1,17 @@
 -- The writer's number and what it leaves, from its checks and from what was laid.
-use Prim.Native.Nat.{ℕ, _+_, _*_, _≤_, _<_}
+use Prim.Native.Nat.{ℕ, _+_, _≤_, _<_}
 use mathlib.Core.Path.{_≡_, refl, sym, ap, ap₂, _∙_}
 use mathlib.Core.Bool.{Bool, true, false, cond, not, _&&_, _||_}
 use mathlib.Core.List.{List, _++_}
-use native.Mathlib.Omega.{arith}
 use native.Mathlib.Nat.{zero-add}
 use lib.IntN.{ℤ, pos, negsuc, natAbs}
-use lib.ListN.{length, getD, take, drop, length-append}
+use lib.ListN.{length, getD, drop, length-append}
 use lib.Dec.{leb, eqb, leb→le, eqb→eq}
 use borrow.Author.Tests.{le-leb, lt-leb}
 use Rattle.rules.specs.declared.Card.{Card}
 use Rattle.rules.specs.Grid.{all}
-use Rattle.rules.specs.Site.{cells, cardFits, groundFits, groundsFit, readGround, firstOf, firstRefusal, ifDone}
-use Rattle.rules.specs.Raster.{keyLines, valueTexts, rowsTurned, rasterText, rasterTextNumber}
+use Rattle.rules.specs.Site.{cells, cardFits, groundFits, groundsFit, readGround, firstOf}
+use Rattle.rules.specs.Raster.{keyLines, rasterText, rasterTextNumber}
 use Rattle.rules.specs.Calls.{writeRasterAnswer, writeRasterText}
 use Rattle.rules.specs.Contracts.{WriteRasterContract}
 use Rattle.laws.specs.Tests.{to-T, and-left}

@@ -1,12 +1,11 @@
 -- The rows of a raster: their lengths, and that row by row they are the text of the values as it is defined.
-use Prim.Native.Nat.{ℕ, zero, suc, _+_, _*_, _-_, _%_, _≤_, _<_}
+use Prim.Native.Nat.{ℕ, zero, suc, _+_, _*_, _-_, _≤_, _<_}
 use mathlib.Core.Path.{_≡_, refl, sym, ap, ap₂, _∙_}
 use mathlib.Core.Bool.{cond}
 use mathlib.Core.List.{List, [], _∷_, _++_, append-nil, append-assoc}
 use native.Mathlib.Omega.{arith}
-use native.Mathlib.Nat.{add-zero, add-suc, zero-mul, suc-mul, eq-or-lt-of-le}
+use native.Mathlib.Nat.{add-zero, add-suc, zero-mul, suc-mul}
 use native.Mathlib.Numerals.{add-one}
-use mathlib.Core.Logic.{_⊎_, inl, inr}
 use lib.Arith.{digits-mod, digits-lt}
 use lib.IntN.{ℤ, pos, natAbs}
 use lib.ListN.{length, getD, length-append}
@@ -20,7 +19,8 @@ use mir.Facts.{toZ-ofZ}
 use Rattle.laws.specs.Exact.{sfits}
 use Rattle.laws.specs.Facts.{card-facts}
 use Rattle.raster_laws.specs.Turned.{turned-at}
-use Rattle.raster_writer.specs.Lines.{behindCell, cellText, rowText, rowTexts, Checked, Row, Cell}
+use Rattle.raster_writer.specs.Lines.{behindCell, cellText, rowText, rowTexts, Cell}
+use Rattle.raster_writer.proofs.Laws.{piece-within}
 use Rattle.raster_writer.proofs.Lengths.{signed-most}
 
 module _ (c : Card) (g : List ℤ) where
@@ -51,28 +51,10 @@ module _ (c : Card) (g : List ℤ) where
   length-rows n = ap length (rows-more n) ∙ length-append (rowTexts c g n) (rowText c g (c .rows - 1 - n) (c .columns))
 
   pub row-within : (j i n : ℕ) → i < n → length (rowText c g j i) + length (cellText c g i j) ≤ length (rowText c g j n)
-  row-within j i zero h = absurd (omega arith)
-  row-within j i (suc n) h = go (λ l. row-within j i n l) (eq-or-lt-of-le (let k : i ≤ n = omega arith in k))
-    where
-      last : length (rowText c g j (suc n)) ≡ length (rowText c g j n) + length (cellText c g n j)
-      last = ap (λ (k : ℕ). length (rowText c g j k)) (sym (add-one n)) ∙ length-row j n
-
-      go : (i < n → length (rowText c g j i) + length (cellText c g i j) ≤ length (rowText c g j n)) → (i ≡ n) ⊎ (i < n)
-          → length (rowText c g j i) + length (cellText c g i j) ≤ length (rowText c g j (suc n))
-      go before (inl e) = rw e (omega (arith, last))
-      go before (inr l) = omega (arith, last, before l)
+  row-within j i n h = piece-within (rowText c g j) (λ i. cellText c g i j) (length-row j) i n h
 
   pub rows-within : (i n : ℕ) → i < n → length (rowTexts c g i) + length (rowText c g (c .rows - 1 - i) (c .columns)) ≤ length (rowTexts c g n)
-  rows-within i zero h = absurd (omega arith)
-  rows-within i (suc n) h = go (λ l. rows-within i n l) (eq-or-lt-of-le (let k : i ≤ n = omega arith in k))
-    where
-      last : length (rowTexts c g (suc n)) ≡ length (rowTexts c g n) + length (rowText c g (c .rows - 1 - n) (c .columns))
-      last = ap (λ (k : ℕ). length (rowTexts c g k)) (sym (add-one n)) ∙ length-rows n
-
-      go : (i < n → length (rowTexts c g i) + length (rowText c g (c .rows - 1 - i) (c .columns)) ≤ length (rowTexts c g n)) → (i ≡ n) ⊎ (i < n)
-          → length (rowTexts c g i) + length (rowText c g (c .rows - 1 - i) (c .columns)) ≤ length (rowTexts c g (suc n))
-      go before (inl e) = rw e (omega (arith, last))
-      go before (inr l) = omega (arith, last, before l)
+  rows-within i n h = piece-within (rowTexts c g) (λ n. rowText c g (c .rows - 1 - n) (c .columns)) length-rows i n h
 
   -- ---- one cell
 

@@ -1,12 +1,12 @@
 // The lines of the keys: at most 80 bytes.
 ghost use mathlib.Core.Path.{_≡_};
 ghost use mathlib.Core.Bool.{true};
-ghost use mathlib.Core.List.{_∷_, [], _++_};
-ghost use Prim.Native.Nat.{_+_, _≤_, _<_};
+ghost use mathlib.Core.List.{[], _++_};
+ghost use Prim.Native.Nat.{_+_, _≤_};
 ghost use lib.ListN.{length};
 ghost use Rattle.rules.specs.Text.{decimal};
 ghost use Rattle.rules.specs.Play.{lineFeed};
-ghost use Rattle.rules.specs.Raster.{metres as Raster·metres, keyLines};
+ghost use Rattle.rules.specs.Raster.{keyLines};
 ghost use Rattle.rules.specs.Site.{cardFits};
 ghost use Rattle.print.specs.Appended.{Appended};
 use crate::metres;

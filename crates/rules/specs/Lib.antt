@@ -12,5 +12,6 @@ pub mod Text
 pub mod Play
 pub mod Raster
 pub mod Calls
+pub mod StarredRasters
 pub mod Starred
 pub mod Contracts

@@ -82,11 +82,11 @@ fractionFits [] = true
 fractionFits (b ∷ ds) = eqb b 46 && digitsFit 6 ds
 
 -- a decimal has one to twelve digits before a point; leading zeros count
-unfoldable pub sizeFits : List ℕ → Bool
-sizeFits w = within 1 12 (length (digitsFront w)) && fractionFits (digitsRest w)
+unfoldable pub unsignedFits : List ℕ → Bool
+unsignedFits w = within 1 12 (length (digitsFront w)) && fractionFits (digitsRest w)
 
 unfoldable pub isDecimal : (word : List ℕ) → Bool
-isDecimal w = sizeFits (unsigned w)
+isDecimal w = unsignedFits (unsigned w)
 
 -- in micrometres, exact: of the six places behind a point those that are not written are 0
 unfoldable pub fraction : List ℕ → ℕ

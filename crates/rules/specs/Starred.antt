@@ -1,4 +1,4 @@
--- Document 01, "Numbers to check by": the starred cases, in a single table under a single claim, proved by computation; and cases of document 02's [9], [8], [2], [5], [10] and [1].
+-- Document 01, "Numbers to check by": the starred cases, in a single table under a single claim, proved by computation; and cases of document 02's [9], [8], [2], [5], [10], [1] and, in a file of their own, [3].
 -- Each row of a step's call is made by both engines ([5]).
 use Prim.Native.Nat.{ℕ}
 use mathlib.Core.Path.{_≡_, refl}
@@ -20,6 +20,7 @@ use Rattle.rules.specs.Pumps.{pumpAt, fewPumps, wholePumps, pumpFits, pu
 use Rattle.rules.specs.Text.{digitsOf, decimal, heightText, depthText}
 use Rattle.rules.specs.Staff.{product, valueFits, productFits, nearestWhole, withHeight, withoutHeight, measured}
 use Rattle.rules.specs.Calls.{stepAnswerBy, stepNextBy, stepAnswer, stepNext, textbookAnswer, textbookNext, staffAnswer, kindAnswer}
+use Rattle.rules.specs.StarredRasters.{StarredRasters, starredRasters}
 
 -- sides 1,000,000 and dt 100; one row
 unfoldable pub oneRow : (columns : ℕ) → Card
@@ -187,6 +188,8 @@ pub record Starred : Type 0 where
   pub text-9999 : depthText (pos 9999) ≡ 60 ∷ 49 ∷ 32 ∷ 99 ∷ 109 ∷ []
   pub text-10000 : depthText (pos 10000) ≡ 49 ∷ 32 ∷ 99 ∷ 109 ∷ []
   pub text-15000 : depthText (pos 15000) ≡ 50 ∷ 32 ∷ 99 ∷ 109 ∷ []
+  -- [3], rasters read and written
+  pub rasters : StarredRasters
 
 pub starred : Starred
 unfolding oneRow flat two passing three pondGround pond pondFace through square four tabulate grid all allAt greatest sum sumAt readGround readState writeState stateLength sumOfHeights sizesFit sidesFit timesFit cardFits lengthsFit groundsFit heightsFit velocitiesFit wallsStill valuesFit firstOf checkAlso firstRefusal ifDone walled transfer eastTransfer northTransfer forward backward withinLimit newHeight after before eastFace northFace outAhead outBehind outAbove outBelow positive ownShare brought carried rise slope isBank dryBank newVelocityBy newEast newNorth next limitKept newHeightsFit newVelocitiesFit answer number stepNumberBy nextStateBy pressure pressureTerm groundTerm textbookRise digitsOf decimal heightText depthText stepAnswerBy stepNextBy slowRow peak started accepted stoppedFor runOn runFrom history runAfter pumpAt fewPumps wholePumps pumpFits pumpsFit checkPumped checkPumpedWith adds takes heightAfter afterPump afterPumps addsUpTo takesUpTo pumped addedBy takenBy turnFits inletsFit pumpedNumber addedOver takenOver reported pumpedRunAfter pumpedRun span climb size odd units round mul ofInt ofFields ofBits trailingZeros product valueFits productFits nearestWhole withHeight withoutHeight measured staffAnswer kindAnswer
@@ -258,4 +261,5 @@ starred = record {
   text-9999 = refl;
   text-10000 = refl;
   text-15000 = refl;
+  rasters = starredRasters;
 }

@@ -5,7 +5,7 @@ use mathlib.Core.Bool.{cond}
 use mathlib.Core.List.{List}
 use Prim.Native.Nat.{ℕ}
 use lib.ListN.{length, take, drop}
-use Rattle.rules.specs.Raster.{unsigned, sizeFits, sizeOf, isDecimal}
+use Rattle.rules.specs.Raster.{unsigned, unsignedFits, sizeOf, isDecimal}
 use native.Mathlib.Omega.{arith}
 use Rattle.raster_laws.specs.Sizes.{minus-some, unsigned-minus, unsigned-plain}
 use Rattle.laws.specs.Parts.{back-is}
@@ -31,14 +31,14 @@ size-in-requires c κs = search needs
 
 returns : tie.Need-returns
 unfolding isDecimal
-returns c = let w = c .before .before .before .before .before .args .word .now in let m = sym (c .before .before .before .is-minus .ensures) ∙ c .before .before .if1 .taken in let e : take (length w - 1) (drop 1 w) ≡ unsigned w = back-is 1 w ∙ sym (unsigned-minus w m) in (c .size-in .ensures .0 ∙ ap sizeFits e, (sym m, c .size-in .ensures .1 ∙ ap (λ (v : List ℕ). cond (c .size-in .result .fits) (sizeOf v) 0) e))
+returns c = let w = c .before .before .before .before .before .args .word .now in let m = sym (c .before .before .before .is-minus .ensures) ∙ c .before .before .if1 .taken in let e : take (length w - 1) (drop 1 w) ≡ unsigned w = back-is 1 w ∙ sym (unsigned-minus w m) in (c .size-in .ensures .0 ∙ ap unsignedFits e, (sym m, c .size-in .ensures .1 ∙ ap (λ (v : List ℕ). cond (c .size-in .result .fits) (sizeOf v) 0) e))
 
 size-in-requires-2 : tie.Need-size-in-requires-2
 size-in-requires-2 c κs = search needs
 
 returns-2 : tie.Need-returns-2
 unfolding isDecimal
-returns-2 c = let w = c .before .before .before .before .args .word .now in let m = sym (c .before .before .is-minus .ensures) ∙ c .before .if1 .left in let e : w ≡ unsigned w = sym (unsigned-plain w m) in (c .size-in2 .ensures .0 ∙ ap sizeFits e, (sym m, c .size-in2 .ensures .1 ∙ ap (λ (v : List ℕ). cond (c .size-in2 .result .fits) (sizeOf v) 0) e))
+returns-2 c = let w = c .before .before .before .before .args .word .now in let m = sym (c .before .before .is-minus .ensures) ∙ c .before .if1 .left in let e : w ≡ unsigned w = sym (unsigned-plain w m) in (c .size-in2 .ensures .0 ∙ ap unsignedFits e, (sym m, c .size-in2 .ensures .1 ∙ ap (λ (v : List ℕ). cond (c .size-in2 .result .fits) (sizeOf v) 0) e))
 
 pub decimal-in-spec : {M : Type 1} → statement M
 decimal-in-spec =

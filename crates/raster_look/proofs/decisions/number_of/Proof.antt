@@ -1,5 +1,4 @@
 -- `number_of`: the first test that fails.
-use mathlib.Core.Path.{sym}
 use borrow.Author.Tests.{not-true, not-false}
 use Rattle.rules.specs.Site.{firstOf}
 use Rattle.raster_look.proofs.decisions.number_of.Statement.{statement}

@@ -1,5 +1,5 @@
 -- `value_fits`: the size decides for the range.
-use mathlib.Core.Path.{sym, ap, ap₂, _∙_}
+use mathlib.Core.Path.{sym, ap₂}
 use Prim.Native.Nat.{ℕ}
 use mathlib.Core.Bool.{Bool, not, _&&_}
 use lib.Dec.{leb}
