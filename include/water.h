@@ -9,11 +9,12 @@
  * fesetround, nor has it set flush-to-zero or denormals-are-zero, which linking with -ffast-math does on x86-64. Otherwise water_staff may
  * answer another height, or read a value just below 0, and a search may take a window edge next to 0 for 0. No other call uses doubles.
  *
- * Numbers: 0 done, 1 card out of range (or over 64 pumps), 2 a list has the wrong length (or over 1,000 chambers), 3 a value out of
- * range, a wall velocity not 0, a pump's cell that the site has not, a window edge or a staff reading not finite, a staff reading below 0,
- * above 50 m or of an unknown kind, 4 a cell breaks the step limit, 5 a new height, or one that an inlet makes, exceeds 50,000,000, 7 a
- * new velocity is out of range, 8 the lent room is too short, 9 not a sheet of version 1. 6 is unused: no site gives it. The lowest number
- * that applies is given; the sheet reader looks for 9 first.
+ * Numbers: 0 done, 1 card out of range, a raster's columns, rows or cellsize too (or over 64 pumps), 2 a list has the wrong length (or over
+ * 1,000 chambers, or a raster is to be written of a site whose sides differ), 3 a value out of range, a wall velocity not 0, a pump's cell
+ * that the site has not, a window edge or a staff reading not finite, a staff reading below 0, above 50 m or of an unknown kind, a raster's
+ * no-data value among its heights, 4 a cell breaks the step limit, 5 a new height, or one that an inlet makes, exceeds 50,000,000, 7 a new
+ * velocity is out of range, 8 the lent room is too short, 9 not a sheet of version 1, 10 not a raster. 6 is unused: no site gives it. The
+ * lowest number that applies is given; but the sheet reader looks for 9 first, and the raster reader for 10.
  *
  * Step limit: dt*(we*dy + sn*dx) <= 1000*dx*dy in every cell, dry ones too, we being its west velocity if that points west plus
  * its east one if that points east, each without its sign, and sn the same for south and north: what leaves a cell in one step is
@@ -39,6 +40,13 @@
  * There is no friction: on a slope the last micrometre of a cell that runs dry gets faster until a step is refused with 4, or where the
  * time step is short with 7, however much water is left elsewhere (examples/README.md has measured slopes).
  *
+ * Rasters: surveyors send the ground as an Esri ASCII raster, a text. Its words are parted by blanks, tabs, line feeds and carriage returns,
+ * as many as there are, and by nothing else: ncols and a count, nrows and a count, xllcorner, yllcorner and cellsize with a decimal each,
+ * NODATA_value and a decimal or neither, then columns*rows decimals, the heights in metres, the northern row first and each row west to
+ * east. Keys stand in this order, in any letter case. A count is 1 to 12 digits. A decimal is a minus or none, 1 to 12 digits, and a point
+ * and 1 to 6 digits or neither, and is taken exactly, to the micrometre: there is no plus, no exponent and no seventh place, and a digit
+ * stands on both sides of a point. The corner is looked at as two decimals and dropped; cellsize becomes both sides.
+ *
  * Volume: no water is made and none is lost but by pumps. The sum of a state's columns*rows heights after a step with 0, by either engine,
  * and after water_run, whatever its reason, is the sum before, plus what was added, less what was taken: without pumps it is the same. A
  * run's tally has both totals, in micrometres of height, over the steps that were accepted, each at most 640,000,000,000; a step does not
@@ -59,11 +67,14 @@
  *     water_write_sheet        1,000        1,000     1,000
  *     water_depth_text         1,000        1,000     1,000
  *     water_staff              1,000        1,000     1,000
+ *     water_read_raster        1,000        1,000     1,000
+ *     water_write_raster       1,000        1,000     1,000
  *
  * Small is a site whose state has at most 3,136 words, as with 32 columns and 32 rows. Without pumps a step by either engine takes
  * 398,000, on a small site 27,000. Where the state has at most 800 words, as with 16 columns and 16 rows, it takes 12,000, without pumps
- * 9,000. A run takes no more with pumps than without. Refused means with 1, 2 or 3, and by the sheet reader with 9 too: the 4, 5 and 7 of
- * a step or a run take what the site takes. A thread that has 640,000 bytes does for every call, whatever the input.
+ * 9,000. A run takes no more with pumps than without. Refused means with 1, 2 or 3, by the sheet reader with 9 too and by the raster
+ * reader with 10: the 4, 5 and 7 of a step or a run take what the site takes. A thread that has 640,000 bytes does for every call, whatever
+ * the input.
  */
 #ifndef WATER_H
 #define WATER_H
@@ -72,8 +83,8 @@
 #include <stdint.h>
 
 /* 3: water_step, water_step_textbook and water_run take pumps, and a tally has added and taken. Compile anew what was compiled
- * with an older header: its calls pass no pumps, and its tally is shorter. A call that is only added, as water_staff was, leaves the
- * number as it is. */
+ * with an older header: its calls pass no pumps, and its tally is shorter. A call that is only added, as water_staff was and
+ * the two of rasters, leaves the number as it is. */
 #define WATER_VERSION 3
 
 #ifdef __cplusplus
@@ -120,7 +131,7 @@ typedef struct {
     WaterCard card;
 } WaterHeard;
 
-/* What the sheet writer answers. */
+/* What the sheet writer answers, and the raster writer. */
 typedef struct {
     uint32_t number, size;
 } WaterWrote;
@@ -134,6 +145,15 @@ typedef struct {
     uint32_t number, read;
     int32_t height;
 } WaterStaff;
+
+/* What the raster reader answers: columns and rows 1 to 128, and side, 100,000 to 20,000,000 um, which is both sides of a card; all three 0
+ * if it is refused. */
+typedef struct {
+    uint32_t number, columns, rows, side;
+} WaterRaster;
+
+/* Room for the raster of any site: that of 128 columns and rows, each value of 10 bytes. Of fewer, 63 + 11*columns*rows are enough. */
+#define WATER_RASTER_BYTES 180287
 
 /* One step: reads ground, state and pumps and fills next, a list of the state's length.
  * Refused with 1 to 5 or 7: next is as lent. */
@@ -212,6 +232,31 @@ size_t water_depth_text(int32_t height, uint8_t *scratch, size_t scratch_length)
  * Refused with 3: a value that is not finite or is below 0 (-0.0 is not); a product above 50,000,000, even if it would go down to that,
  * as that of 50.0000004 m would, or one that overflows; a kind that is none of the three. Then read and height are 0. */
 WaterStaff water_staff(uint32_t kind, double value);
+
+/* Reads a raster into ground, a list of its columns*rows words, rows south to north as in every other list: the last row of the text comes
+ * first. A host that does not know how many there are looks at the second and the fourth word; of a text that ends with a zero byte
+ *
+ *     unsigned long long columns, rows;
+ *     int two = sscanf(text, "%*s %12llu %*s %12llu", &columns, &rows) == 2;
+ *
+ * and lends columns*rows words where there are two and each is 1 to 128, and otherwise none: then the text is refused with 10 or 1 whatever
+ * is lent. That is a look for room, and no check: the library reads the text by itself. text_length is without that zero byte, which is no
+ * part of a raster.
+ * Refused, and looked for in this order: 10 where the text is not a raster as above, or has not just as many values as columns*rows; 1
+ * where ncols or nrows is not 1 to 128 or cellsize is not 0.1 to 20 m; 2 where ground has another length; 3 where a height is not -50 to
+ * 50 m, or is the no-data value, by its number and not by its letters: -9999.0 is -9999, and -0 is 0. Then columns, rows and side are 0 and
+ * ground is as lent. */
+WaterRaster water_read_raster(const uint8_t *text, size_t text_length,
+                              int32_t *ground, size_t ground_length);
+
+/* Writes the ground of a site with equal sides as a raster to the front of text, the rest as lent, with no zero byte behind it: lines of
+ * "ncols", "nrows", "xllcorner 0", "yllcorner 0" and "cellsize", then one for each row, northern first; single blanks, six places in
+ * cellsize and every value, no NODATA_value, and a line feed behind each line. It reads back as the same ground, columns, rows and side.
+ * Refused with 1 (the whole card, dt and steps too), 2 where ground has another length than columns*rows or dx is not dy, 3 where a ground
+ * level is out of range, 8 where text is shorter than what is to be written: size 0, text as lent. */
+WaterWrote water_write_raster(WaterCard card,
+                              const int32_t *ground, size_t ground_length,
+                              uint8_t *text, size_t text_length);
 
 #ifdef __cplusplus
 }

@@ -50,3 +50,15 @@ WaterStaff water_staff(uint32_t kind, double value) {
     flat_staff(kind, value, &staff);
     return staff;
 }
+
+WaterRaster water_read_raster(LIST(const uint8_t, text), LIST(int32_t, ground)) {
+    WaterRaster raster;
+    flat_read_raster(LENT(text), LENT(ground), &raster);
+    return raster;
+}
+
+WaterWrote water_write_raster(WaterCard card, GROUND, LIST(uint8_t, text)) {
+    WaterWrote wrote;
+    flat_write_raster(&card, LENT(ground), LENT(text), &wrote);
+    return wrote;
+}

@@ -38,3 +38,11 @@ size_t flat_depth_text(int32_t height, LIST(uint8_t, scratch)) {
 void flat_staff(uint32_t kind, double value, WaterStaff *staff) {
     *staff = water_staff(kind, value);
 }
+
+void flat_read_raster(LIST(const uint8_t, text), LIST(int32_t, ground), WaterRaster *raster) {
+    *raster = water_read_raster(LENT(text), LENT(ground));
+}
+
+void flat_write_raster(const WaterCard *card, GROUND, LIST(uint8_t, text), WaterWrote *wrote) {
+    *wrote = water_write_raster(*card, LENT(ground), LENT(text));
+}

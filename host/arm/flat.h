@@ -18,3 +18,5 @@ void flat_read_sheet(LIST(const uint8_t, sheet), LIST(int32_t, ground), LIST(int
 void flat_write_sheet(const WaterCard *card, GROUND, STATE, LIST(uint8_t, bytes), WaterWrote *wrote);
 size_t flat_depth_text(int32_t height, LIST(uint8_t, scratch));
 void flat_staff(uint32_t kind, double value, WaterStaff *staff);
+void flat_read_raster(LIST(const uint8_t, text), LIST(int32_t, ground), WaterRaster *raster);
+void flat_write_raster(const WaterCard *card, GROUND, LIST(uint8_t, text), WaterWrote *wrote);

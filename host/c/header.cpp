@@ -20,5 +20,11 @@ int main() {
     const bool fifth = metres.number == 0 && metres.read == 1 && metres.height == 1500000 && feet.height == 304800 && none.read == 0;
     const WaterStaff below = water_staff(WATER_METRES, -1.5), unknown = water_staff(3, 1.5);
     const bool sixth = below.number == 3 && below.read == 0 && below.height == 0 && unknown.number == 3;
-    return first && second && third && fourth && fifth && sixth ? 0 : 1;
+    // room in an array, as the header gives it
+    static uint8_t text[WATER_RASTER_BYTES];
+    const WaterWrote wrote = water_write_raster(card, ground, 1, text, sizeof text);
+    int32_t back[1] = {7};
+    const WaterRaster raster = water_read_raster(text, wrote.size, back, 1);
+    const bool seventh = wrote.number == 0 && raster.number == 0 && raster.columns == 1 && raster.rows == 1 && raster.side == 1000000 && back[0] == 0;
+    return first && second && third && fourth && fifth && sixth && seventh ? 0 : 1;
 }

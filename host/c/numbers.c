@@ -52,6 +52,11 @@ SIZE(WaterStaff, 12);
 PLACE(WaterStaff, number, 0);
 PLACE(WaterStaff, read, 4);
 PLACE(WaterStaff, height, 8);
+SIZE(WaterRaster, 16);
+PLACE(WaterRaster, number, 0);
+PLACE(WaterRaster, columns, 4);
+PLACE(WaterRaster, rows, 8);
+PLACE(WaterRaster, side, 12);
 
 /* ---- counting */
 
@@ -510,6 +515,147 @@ static void refused_staff_readings(void) {
     }
 }
 
+/* ---- surveyors' rasters, document 02, [3] */
+
+/* How long a ground list a text asks for, by the look that the header shows; none where that finds no sizes in range. */
+static size_t asked_for(const char *text) {
+    unsigned long long columns, rows;
+    int two = sscanf(text, "%*s %12llu %*s %12llu", &columns, &rows) == 2;
+    return two && columns >= 1 && columns <= 128 && rows >= 1 && rows <= 128 ? (size_t)(columns * rows) : 0;
+}
+
+enum { FEW = 16 };
+
+/* A text read into so many words, which are copied out; the text is left as it is. Refused, it answers its number alone, and the list is as
+ * lent. */
+static WaterRaster raster_into(const char *text, size_t words, int32_t ground[FEW]) {
+    int32_t as_lent[FEW];
+    for (int k = 0; k < FEW; k++) {
+        as_lent[k] = -77 - k;
+    }
+    size_t length = strlen(text);
+    const uint8_t *t = lend(text, length);
+    int32_t *g = lend(as_lent, words * sizeof *g);
+    WaterRaster raster = water_read_raster(t, length, g, words);
+    EXPECT(length == 0 || memcmp(t, text, length) == 0);
+    if (raster.number != 0) {
+        EXPECT(raster.columns == 0 && raster.rows == 0 && raster.side == 0);
+        EXPECT(words == 0 || memcmp(g, as_lent, words * sizeof *g) == 0);
+    }
+    if (words > 0) {
+        memcpy(ground, g, words * sizeof *g);
+    }
+    hand_back();
+    return raster;
+}
+
+/* The number of a text that is read into as many words as it asks for. */
+static uint32_t raster_number(const char *text) {
+    int32_t ground[FEW];
+    size_t words = asked_for(text);
+    return raster_into(text, words <= FEW ? words : 0, ground).number;
+}
+
+#define HEAD(columns, rows, side) "ncols " columns "\nnrows " rows "\nxllcorner 0\nyllcorner 0\ncellsize " side "\n"
+
+static void rasters_read(void) {
+    static const char padded[] = "NCOLS        3\r\nNROWS        2\r\nXLLCORNER    431000.5\r\nYLLCORNER    -12\r\nCELLSIZE     0.25\r\n"
+                                 "NODATA_VALUE -9999\r\n 1 -0.5 12.345678\r\n\t0 -0 -50.000000";
+    static const int32_t ground[6] = {0, 0, -50000000, 1000000, -500000, 12345678};
+    int32_t back[FEW];
+    EXPECT(asked_for(padded) == 6);
+    WaterRaster raster = raster_into(padded, 6, back);
+    EXPECT(raster.number == 0 && raster.columns == 3 && raster.rows == 2 && raster.side == 250000 && SAME(back, ground));
+    /* on one line; without a no-data value; leading noughts; the ends of cellsize */
+    EXPECT(raster_number("ncols 1 nrows 1 xllcorner 0 yllcorner 0 cellsize 0.1 50") == 0);
+    EXPECT(raster_number("ncols 000000000001 nrows 01 xllcorner -0 yllcorner 00 cellsize 20.000000 -000000000050.0") == 0);
+    EXPECT(raster_number("\n\rncols\t1\rnrows\n1 xllcorner 0 yllcorner 0 cellsize 1 nodata_value 7 7.000001\t\n\r ") == 0);
+}
+
+static void rasters_refused(void) {
+    static const char six[] = HEAD("3", "2", "1") "1 2 3\n4 5 6\n";
+    int32_t back[FEW];
+    /* 10: no text; keys; words that are no such numbers; how many values there are, and products that overflow */
+    EXPECT(raster_number("") == 10 && raster_number(" \n") == 10 && raster_number("ncols 3") == 10);
+    EXPECT(raster_number("nrows 1 ncols 1 xllcorner 0 yllcorner 0 cellsize 1 5") == 10);
+    EXPECT(raster_number("ncols 1 nrows 1 xllcenter 0 yllcenter 0 cellsize 1 5") == 10);
+    EXPECT(raster_number(HEAD("1", "1", "1") "+5") == 10 && raster_number(HEAD("1", "1", "1") "5e0") == 10);
+    EXPECT(raster_number(HEAD("1", "1", "1") ".5") == 10 && raster_number(HEAD("1", "1", "1") "5.") == 10);
+    EXPECT(raster_number(HEAD("1", "1", "1") "5.0000000") == 10 && raster_number(HEAD("1", "1", "1") "0000000000005") == 10);
+    EXPECT(raster_number(HEAD("1.0", "1", "1") "5") == 10 && raster_number(HEAD("-1", "1", "1") "5") == 10);
+    EXPECT(raster_number(HEAD("2", "1", "1") "5") == 10 && raster_number(HEAD("1", "1", "1") "5 5") == 10);
+    EXPECT(raster_number(HEAD("2", "2147483651", "1") "1 2 3 4 5 6") == 10);
+    EXPECT(raster_number(HEAD("4294967296", "4294967296", "1")) == 10 && raster_number(HEAD("999999999999", "999999999999", "1") "5") == 10);
+    EXPECT(raster_number(HEAD("1", "1", "1") "5\v") == 10);
+    /* 1: sizes and sides */
+    EXPECT(raster_number(HEAD("0", "7", "1")) == 1 && raster_number(HEAD("1", "1", "0.099999") "5") == 1);
+    EXPECT(raster_number(HEAD("1", "1", "20.000001") "5") == 1 && raster_number(HEAD("1", "1", "-1") "5") == 1);
+    /* 2: every other length */
+    for (size_t words = 0; words <= FEW; words++) {
+        EXPECT(raster_into(six, words, back).number == (words == 6 ? 0 : 2));
+    }
+    /* 3: heights, and the no-data value by its number */
+    EXPECT(raster_number(HEAD("1", "1", "1") "50.000001") == 3 && raster_number(HEAD("1", "1", "1") "-50.000001") == 3);
+    EXPECT(raster_number(HEAD("1", "1", "1") "4294.967296") == 3);
+    EXPECT(raster_number(HEAD("2", "1", "1") "NODATA_value -9999 5 -9999.0") == 3);
+    EXPECT(raster_number(HEAD("2", "1", "1") "NODATA_value 0 -0 5") == 3);
+    /* each before the next */
+    EXPECT(raster_into(HEAD("1", "1", "0") "51", 2, back).number == 1);
+    EXPECT(raster_into(HEAD("1", "1", "1") "51", 2, back).number == 2);
+    EXPECT(raster_into(HEAD("1", "1", "0") "51 x", 2, back).number == 10);
+}
+
+static void rasters_written(void) {
+    static const WaterCard square = {3, 2, 500000, 500000, 100, 2};
+    static const int32_t ground[6] = {0, -1, 1, -500000, 12345678, -50000000};
+    static const char text[] = HEAD("3", "2", "0.500000") "-0.500000 12.345678 -50.000000\n0.000000 -0.000001 0.000001\n";
+    enum { BYTES = sizeof text - 1, MORE = BYTES + 5 };
+    char as_lent[MORE];
+    memset(as_lent, '#', sizeof as_lent);
+    for (size_t room = 0; room <= MORE; room++) {
+        uint8_t *t = lend(as_lent, room);
+        WaterWrote wrote = water_write_raster(square, LEND(ground), 6, t, room);
+        size_t fits = room < BYTES ? 0 : BYTES;
+        EXPECT(wrote.number == (fits ? 0 : 8) && wrote.size == fits);
+        EXPECT(memcmp(t, text, fits) == 0 && memcmp(t + fits, as_lent, room - fits) == 0);
+        hand_back();
+    }
+    int32_t back[FEW];
+    WaterRaster raster = raster_into(text, asked_for(text), back);
+    EXPECT(raster.number == 0 && raster.columns == 3 && raster.rows == 2 && raster.side == 500000 && SAME(back, ground));
+
+    const WaterCard oblong = {3, 2, 500000, 500001, 100, 2}, no_time = {3, 2, 500000, 500000, 0, 2}, many = {3, 2, 500000, 500000, 100, 10001};
+    int32_t high[6] = {0, 0, 0, 0, 0, 50000001};
+    uint8_t *t = LEND(as_lent);
+    EXPECT(water_write_raster(no_time, ground, 6, t, MORE).number == 1 && water_write_raster(many, ground, 6, t, MORE).number == 1);
+    EXPECT(water_write_raster(oblong, ground, 6, t, MORE).number == 2 && water_write_raster(square, ground, 5, t, MORE).number == 2);
+    WaterWrote wrote = water_write_raster(square, high, 6, t, MORE);
+    EXPECT(wrote.number == 3 && wrote.size == 0 && SAME(t, as_lent));
+    hand_back();
+}
+
+/* The largest raster, in just as much room as the header says, and read back by the sizes that stand in it. */
+static void largest_raster(void) {
+    enum { CELLS = 128 * 128 };
+    static const WaterCard big = {128, 128, 20000000, 20000000, 1000, 10000};
+    static int32_t ground[CELLS];
+    static char room[WATER_RASTER_BYTES];
+    for (int k = 0; k < CELLS; k++) {
+        ground[k] = -50000000 + k;
+    }
+    const int32_t *g = LEND(ground);
+    uint8_t *text = LEND(room);
+    WaterWrote wrote = water_write_raster(big, g, CELLS, text, WATER_RASTER_BYTES);
+    EXPECT(wrote.number == 0 && wrote.size == WATER_RASTER_BYTES);
+    EXPECT(water_write_raster(big, g, CELLS, text, WATER_RASTER_BYTES - 1).number == 8);
+    memset(ground, 0, sizeof ground);
+    int32_t *back = LEND(ground);
+    WaterRaster raster = water_read_raster(text, wrote.size, back, CELLS);
+    EXPECT(raster.number == 0 && raster.columns == 128 && raster.rows == 128 && raster.side == 20000000);
+    EXPECT(memcmp(back, g, sizeof ground) == 0);
+    hand_back();
+}
+
 /* The largest site, stepped, run, searched, written and read back. */
 static void largest(void) {
     enum { CELLS = 128 * 128, WORDS = 3 * CELLS + 256, BYTES = 19 + 4 * (CELLS + WORDS) };
@@ -586,6 +732,12 @@ static void no_pointers(void) {
     found = water_search_lists(card, flat, 2, state, 9, NULL, 0, NULL, 0, all, 0, NULL, 0);
     EXPECT(found.number == 0 && found.count == 0);
     EXPECT(water_depth_text(5, NULL, 0) == 0);
+    WaterRaster raster = water_read_raster(NULL, 0, NULL, 0);
+    EXPECT(raster.number == 10 && raster.columns == 0 && raster.rows == 0 && raster.side == 0);
+    wrote = water_write_raster(card, NULL, 0, NULL, 0);
+    EXPECT(wrote.number == 2 && wrote.size == 0);
+    wrote = water_write_raster(card, flat, 2, NULL, 0);
+    EXPECT(wrote.number == 8 && wrote.size == 0);
 }
 
 int main(void) {
@@ -606,6 +758,10 @@ int main(void) {
         searches(1);
         sheet();
         texts();
+        rasters_read();
+        rasters_refused();
+        rasters_written();
+        largest_raster();
         largest();
     }
     no_pointers();

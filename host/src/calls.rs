@@ -7,6 +7,7 @@
 //! is no pumps. [`raw::Pump::words`] lends an array of records as such a list; [`crate::Site`] takes pumps by column and row
 //! ([`crate::Pump`]).
 
+use crate::raster::{self, Raster};
 use crate::raw::{self, Card, Chamber, Window};
 use crate::reading::Reading;
 use crate::refusal::Refusal;
@@ -300,4 +301,58 @@ pub fn staff(reading: Reading) -> Result<Option<i32>, Refusal> {
     // Safety: nothing is lent.
     let raw::Staff { number, read, height } = unsafe { raw::water_staff(kind, value) };
     done(number, 0, (read == 1).then_some(height))
+}
+
+/// Reads a raster into `ground`, which has the length that its columns and rows ask for ([`Raster::ground_length`]). The text has its
+/// northern row first; rows of the ground run south to north, as everywhere.
+///
+/// Its words are parted by blanks, tabs, line feeds and carriage returns. Keys stand in the order below, in any letter case, and
+/// `NODATA_value` may be missing. `ncols` and `nrows` are 1 to 12 digits; all else are decimals, an optional minus, 1 to 12 digits, and
+/// optionally a point and 1 to 6 digits, exact to the micrometre. The corner is looked at as two decimals and dropped.
+///
+/// Refused, in this order: [`Refusal::Raster`] where the text is no such raster or has another count of values; [`Refusal::Card`] where
+/// columns, rows or cellsize is out of range; [`Refusal::Length`]; [`Refusal::Value`] for a height that is out of range or is the no-data
+/// value, compared as numbers.
+///
+/// ```
+/// use water::{calls, Raster, Refusal};
+/// let text = b"ncols 2\nnrows 2\nxllcorner 431000.5\nyllcorner -12\ncellsize 0.5\nNODATA_value -9999\n1.25 -0.000001\n0 12.345678\n";
+/// let mut ground = [7; 4];
+/// assert_eq!(calls::read_raster(text, &mut ground), Ok(Raster { columns: 2, rows: 2, side: 500_000 }));
+/// assert_eq!(ground, [0, 12_345_678, 1_250_000, -1]);
+///
+/// let mut ground = [7; 4];
+/// assert_eq!(calls::read_raster(&text[1..], &mut ground), Err(Refusal::Raster));
+/// assert_eq!(calls::read_raster(text, &mut ground[1..]), Err(Refusal::Length));
+/// let missing = String::from_utf8_lossy(text).replace("1.25", "-9999.0");
+/// assert_eq!(calls::read_raster(missing.as_bytes(), &mut ground), Err(Refusal::Value));
+/// assert_eq!(ground, [7; 4]);
+/// ```
+pub fn read_raster(text: &[u8], ground: &mut [i32]) -> Result<Raster, Refusal> {
+    let raw::Raster { number, columns, rows, side } =
+        unsafe { raw::water_read_raster(text.as_ptr(), text.len(), ground.as_mut_ptr(), ground.len()) };
+    done(number, 0, Raster { columns, rows, side })
+}
+
+/// Writes the ground of a site with equal sides as a raster to the front of `text`, and answers its size. [`Card::raster_room`] is always
+/// enough room. What is written reads back as the same ground, columns, rows and side.
+///
+/// Refused with [`Refusal::Length`] also where the sides differ.
+///
+/// ```
+/// use water::{calls, Card, Refusal};
+/// let card = Card { columns: 2, rows: 1, dx: 1_000_000, dy: 1_000_000, dt: 100, steps: 0 };
+/// let mut text = vec![0; card.raster_room()];
+/// let size = calls::write_raster(card, &[-500_000, 12_345_678], &mut text)?;
+/// assert_eq!(&text[..size], b"ncols 2\nnrows 1\nxllcorner 0\nyllcorner 0\ncellsize 1.000000\n-0.500000 12.345678\n");
+///
+/// assert_eq!(calls::write_raster(card, &[0, 0], &mut text[..75]), Err(Refusal::Room { needed: 76 }));
+/// assert_eq!(calls::write_raster(Card { dy: 2_000_000, ..card }, &[0, 0], &mut text), Err(Refusal::Length));
+/// # Ok::<(), Refusal>(())
+/// ```
+pub fn write_raster(card: Card, ground: &[i32], text: &mut [u8]) -> Result<usize, Refusal> {
+    let wrote = unsafe { raw::water_write_raster(card, ground.as_ptr(), ground.len(), text.as_mut_ptr(), text.len()) };
+    // what is refused with 8 is in range
+    let needed = if wrote.number == 8 { raster::size(&card, ground) } else { 0 };
+    done(wrote.number, needed, wrote.size as usize)
 }

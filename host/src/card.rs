@@ -6,6 +6,9 @@ use crate::raw::Card;
 /// The sheet's bytes before the ground.
 pub const SHEET_HEAD: usize = 19;
 
+/// The longest lines of a raster's keys, those of 128 columns and rows and of sides of 20 m.
+const RASTER_HEAD: usize = 63;
+
 impl Card {
     /// How many cells there are: the length of the ground and of the heights.
     pub fn cells(&self) -> usize {
@@ -60,5 +63,17 @@ impl Card {
     /// ```
     pub fn sheet_size(&self) -> usize {
         self.cells().saturating_add(self.state_length()).saturating_mul(4).saturating_add(SHEET_HEAD)
+    }
+
+    /// Room that is enough for the raster of any ground of this site, which may take less; `usize::MAX` if it is more. Of the largest site it
+    /// is [`raw::WATER_RASTER_BYTES`](crate::raw::WATER_RASTER_BYTES).
+    ///
+    /// ```
+    /// let card = water::Card { columns: 2, rows: 1, ..Default::default() };
+    /// assert_eq!(card.raster_room(), 85);
+    /// ```
+    pub fn raster_room(&self) -> usize {
+        // a value is at most -50.000000, and has a blank or a line feed behind it
+        self.cells().saturating_mul(11).saturating_add(RASTER_HEAD)
     }
 }

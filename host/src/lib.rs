@@ -4,7 +4,8 @@
 //! [`raw`] is what C sees. All state is whole numbers: micrometres, micrometres a second, milliseconds. Rows run south to north,
 //! and within a row west to east. Two engines make a step, to the same numbers: [`calls::step`] is the default, which a run repeats, and
 //! [`calls::step_textbook`] is for reading beside the paper (of Herbin, Latché, Nasseri and Therme). Steps and runs take up to 64 pumps and
-//! inlets ([`Pump`]). What was read off a gauge staff, in metres or in feet ([`Reading`]), becomes a height by [`calls::staff`].
+//! inlets ([`Pump`]). What was read off a gauge staff, in metres or in feet ([`Reading`]), becomes a height by [`calls::staff`]. A surveyor's
+//! Esri ASCII raster becomes a dry site by [`Site::read_raster`], and a site's ground becomes one by [`Site::write_raster`].
 //!
 //! # Stack
 //!
@@ -22,12 +23,14 @@
 //! | [`calls::write_sheet`] | 1,000 | 1,000 | 1,000 |
 //! | [`calls::depth_text`] | 1,000 | 1,000 | 1,000 |
 //! | [`calls::staff`] | 1,000 | 1,000 | 1,000 |
+//! | [`calls::read_raster`] | 1,000 | 1,000 | 1,000 |
+//! | [`calls::write_raster`] | 1,000 | 1,000 | 1,000 |
 //!
 //! Small is a site whose state has at most 3,136 words, as with 32 columns and 32 rows. Without pumps a step by either engine takes
 //! 398,000, on a small site 27,000. Where the state has at most 800 words, as with 16 columns and 16 rows, it takes 12,000, without pumps
-//! 9,000. A run takes no more with pumps than without. Refused means with `Card`, `Length` or `Value`, and by the sheet reader with `Sheet`
-//! too: the later refusals of a step or a run take what the site takes. A thread that has 640,000 bytes does for every call, whatever the
-//! input. A [`Site`] takes as much as the calls that it makes, and 1,000 for the list of its pumps.
+//! 9,000. A run takes no more with pumps than without. Refused means with `Card`, `Length` or `Value`, by the sheet reader with `Sheet`
+//! too and by the raster reader with `Raster`: the later refusals of a step or a run take what the site takes. A thread that has 640,000
+//! bytes does for every call, whatever the input. A [`Site`] takes as much as the calls that it makes, and 1,000 for the list of its pumps.
 //!
 //! # The archive
 //!
@@ -37,6 +40,7 @@
 pub mod calls;
 mod card;
 mod pump;
+mod raster;
 pub mod raw;
 mod reading;
 mod refusal;
@@ -44,6 +48,7 @@ mod site;
 
 pub use calls::Tally;
 pub use pump::Pump;
+pub use raster::Raster;
 pub use raw::{Card, Chamber, Window};
 pub use reading::Reading;
 pub use refusal::Refusal;

@@ -2,6 +2,10 @@
 //!
 //! Use the safe calls of [`crate::calls`] or a [`crate::Site`]; this module is what they stand on.
 
+/// The `WATER_VERSION` of the header that these declarations are of. It changes where an older object would no longer fit; the package's own
+/// first number also where an older Rust host would no longer compile.
+pub const VERSION: u32 = 3;
+
 /// The site card: columns and rows are 1 to 128, sides 100,000 to 20,000,000 micrometres, `dt` 1 to 1,000 milliseconds.
 #[repr(C)]
 #[derive(Clone, Copy, Debug, Default, PartialEq, Eq)]
@@ -84,7 +88,7 @@ pub struct Heard {
     pub card: Card,
 }
 
-/// What the sheet writer answers.
+/// What the sheet writer answers, and the raster writer.
 #[repr(C)]
 #[derive(Clone, Copy, Debug, Default, PartialEq, Eq)]
 pub struct Wrote {
@@ -107,6 +111,19 @@ pub struct Staff {
     pub read: u32,
     pub height: i32,
 }
+
+/// What the raster reader answers: columns, rows and the side of a cell in micrometres, all 0 if it is refused.
+#[repr(C)]
+#[derive(Clone, Copy, Debug, Default, PartialEq, Eq)]
+pub struct Raster {
+    pub number: u32,
+    pub columns: u32,
+    pub rows: u32,
+    pub side: u32,
+}
+
+/// Room for the raster of any site.
+pub const WATER_RASTER_BYTES: usize = 180_287;
 
 /// A step's call by either engine: [`water_step`] or [`water_step_textbook`].
 pub type Step = unsafe extern "C" fn(Card, *const i32, usize, *const i32, usize, *const i32, usize, *mut i32, usize) -> u32;
@@ -200,4 +217,8 @@ extern "C" {
     pub fn water_depth_text(height: i32, scratch: *mut u8, scratch_length: usize) -> usize;
 
     pub fn water_staff(kind: u32, value: f64) -> Staff;
+
+    pub fn water_read_raster(text: *const u8, text_length: usize, ground: *mut i32, ground_length: usize) -> Raster;
+
+    pub fn water_write_raster(card: Card, ground: *const i32, ground_length: usize, text: *mut u8, text_length: usize) -> Wrote;
 }

@@ -8,11 +8,13 @@ use std::fmt;
 pub enum Refusal {
     /// 1: columns, rows, a side, dt or steps wanted outside its range, or over 64 pumps
     Card,
-    /// 2: a lent list has the wrong length (that of pumps an odd one), or there are over 1,000 chambers
+    /// 2: a lent list has the wrong length (that of pumps an odd one), there are over 1,000 chambers, or the sides of a site differ whose
+    /// raster is to be written
     Length,
-    /// 3: a value outside its range, a wall velocity not 0, a pump's cell that the site has not, or a window edge or a staff reading not
-    /// finite. Ground is -50,000,000 to 50,000,000 micrometres, a height and a search's depth 0 to 50,000,000, a velocity -20,000,000 to
-    /// 20,000,000 micrometres a second, a pump's amount -1,000,000 to 1,000,000 micrometres, a staff reading 0 to 50,000,000 micrometres.
+    /// 3: a value outside its range, a wall velocity not 0, a pump's cell that the site has not, a window edge or a staff reading not
+    /// finite, or a raster's no-data value among its heights. Ground is -50,000,000 to 50,000,000 micrometres, a height and a search's depth
+    /// 0 to 50,000,000, a velocity -20,000,000 to 20,000,000 micrometres a second, a pump's amount -1,000,000 to 1,000,000 micrometres, a
+    /// staff reading 0 to 50,000,000 micrometres.
     Value,
     /// 4: some cell breaks the step limit: the velocities that point out of it would take more than it holds in one step. A dry cell
     /// counts too, and a velocity that points into a cell does not count there. A shorter time step helps.
@@ -25,6 +27,9 @@ pub enum Refusal {
     Room { needed: usize },
     /// 9: not a sheet of version 1, or its length field is not the bytes given
     Sheet,
+    /// 10: not a raster: a key that is missing, wrong or in another place, a word that is no such number, over 12 digits before a point or
+    /// over 6 behind it, or a wrong count of values
+    Raster,
 }
 
 impl Refusal {
@@ -39,6 +44,7 @@ impl Refusal {
             Refusal::TooFast => 7,
             Refusal::Room { .. } => 8,
             Refusal::Sheet => 9,
+            Refusal::Raster => 10,
         }
     }
 
@@ -54,7 +60,8 @@ impl Refusal {
             7 => Some(Refusal::TooFast),
             8 => Some(Refusal::Room { needed }),
             9 => Some(Refusal::Sheet),
-            _ => unreachable!("the library gives 0 to 5 and 7 to 9, and gave {number}"),
+            10 => Some(Refusal::Raster),
+            _ => unreachable!("the library gives 0 to 5 and 7 to 10, and gave {number}"),
         }
     }
 }
@@ -63,16 +70,19 @@ impl fmt::Display for Refusal {
     fn fmt(&self, f: &mut fmt::Formatter<'_>) -> fmt::Result {
         match self {
             Refusal::Card => f.write_str("columns, rows, a side, dt or steps outside its range, or over 64 pumps (1)"),
-            Refusal::Length => f.write_str("a list of the wrong length, or over 1,000 chambers (2)"),
+            Refusal::Length => {
+                f.write_str("a list of the wrong length, over 1,000 chambers, or a raster of a site whose sides differ (2)")
+            }
             Refusal::Value => f.write_str(
                 "a value outside its range, a wall velocity not 0, a pump's cell that the site has not, \
-                 or a window edge or a staff reading not finite (3)",
+                 a window edge or a staff reading not finite, or a no-data value among heights (3)",
             ),
             Refusal::StepLimit => f.write_str("some cell breaks the step limit (4)"),
             Refusal::TooHigh => f.write_str("some new height, or one that an inlet makes, exceeds 50,000,000 (5)"),
             Refusal::TooFast => f.write_str("some new velocity lies outside its range (7)"),
             Refusal::Room { needed } => write!(f, "the lent room is too short, {needed} places are needed (8)"),
             Refusal::Sheet => f.write_str("not a sheet of version 1, or its length field is not the bytes given (9)"),
+            Refusal::Raster => f.write_str("not a raster: its keys, its numbers or how many values it has (10)"),
         }
     }
 }

@@ -3,6 +3,7 @@
 use crate::calls::{self, Tally};
 use crate::card::SHEET_HEAD;
 use crate::pump::{Pump, Words};
+use crate::raster::Raster;
 use crate::raw::{Card, Chamber, Window};
 use crate::refusal::Refusal;
 use std::ops::ControlFlow;
@@ -94,6 +95,53 @@ impl Site {
         let mut bytes = vec![0; self.card.sheet_size()];
         calls::write_sheet(self.card, &self.ground, &self.state, &mut bytes).expect("a site is right, and has room");
         bytes
+    }
+
+    /// The site of a surveyor's raster ([`calls::read_raster`] says what that is), dry and still, with a time step in ms and steps wanted.
+    /// Refused as the raster is, and then with [`Refusal::Card`] where `dt` is not 1 to 1,000 or `steps` is over 10,000.
+    ///
+    /// ```
+    /// # use water::{Card, Refusal, Site};
+    /// let text = b"ncols 2 nrows 2 xllcorner 0 yllcorner 0 cellsize 1  0.15 0.14  0.02 0";
+    /// let site = Site::read_raster(text, 100, 20)?;
+    /// assert_eq!(site.card(), Card { columns: 2, rows: 2, dx: 1_000_000, dy: 1_000_000, dt: 100, steps: 20 });
+    /// assert_eq!((site.ground(), site.heights()), (&[20_000, 0, 150_000, 140_000][..], &[0; 4][..]));
+    ///
+    /// // water over it: 30 cm on every cell
+    /// let mut flooded = Site::still(site.card(), site.ground().to_vec(), &[300_000; 4])?;
+    /// assert_eq!(flooded.run().steps, 20);
+    ///
+    /// assert_eq!(Site::read_raster(b"ncols 2", 100, 20), Err(Refusal::Raster));
+    /// assert_eq!(Site::read_raster(text, 0, 20), Err(Refusal::Card));
+    /// # Ok::<(), Refusal>(())
+    /// ```
+    pub fn read_raster(text: &[u8], dt: u32, steps: u32) -> Result<Site, Refusal> {
+        let mut ground = vec![0; Raster::ground_length(text)];
+        let raster = calls::read_raster(text, &mut ground)?;
+        let dry = vec![0; ground.len()];
+        Site::still(raster.card(dt, steps), ground, &dry)
+    }
+
+    /// The site's ground as a raster, which reads back as the same ground, columns, rows and side. Refused with [`Refusal::Length`] where
+    /// the sides of the site differ: a raster has one.
+    ///
+    /// ```
+    /// # use water::{Card, Refusal, Site};
+    /// let card = Card { columns: 2, rows: 1, dx: 500_000, dy: 500_000, dt: 100, steps: 2 };
+    /// let site = Site::still(card, vec![0, -1], &[0, 0])?;
+    /// let text = site.write_raster()?;
+    /// assert_eq!(text, b"ncols 2\nnrows 1\nxllcorner 0\nyllcorner 0\ncellsize 0.500000\n0.000000 -0.000001\n");
+    /// assert_eq!(Site::read_raster(&text, 100, 2)?, site);
+    ///
+    /// let oblong = Site::still(Card { dy: 400_000, ..card }, vec![0, -1], &[0, 0])?;
+    /// assert_eq!(oblong.write_raster(), Err(Refusal::Length));
+    /// # Ok::<(), Refusal>(())
+    /// ```
+    pub fn write_raster(&self) -> Result<Vec<u8>, Refusal> {
+        let mut text = vec![0; self.card.raster_room()];
+        let size = calls::write_raster(self.card, &self.ground, &mut text)?;
+        text.truncate(size);
+        Ok(text)
     }
 
     /// Another time step, in ms, and other steps wanted, from here on: for the next stage of a run, with other pumps, or in shorter steps

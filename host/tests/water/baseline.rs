@@ -12,6 +12,7 @@ mod sites;
 use crate::given::Given;
 use crate::lent::room;
 use crate::model;
+use crate::raster::{hurt_text, Survey};
 use crate::staff::UNITS;
 use crate::trials::{single, trials};
 use crate::wild::{self, Wild};
@@ -107,6 +108,40 @@ fn searches_and_sheets() {
     searched.assert_often("plain searches", &[0, 1, 2, 3, 8], 60);
     written.assert_often("plain sheets written", &[0, 1, 2, 3, 8], 60);
     read.assert_often("plain sheets read", &[0, 1, 2, 3, 9], 400);
+}
+
+#[test]
+fn rasters() {
+    let (mut read, mut written) = (Given::default(), Given::default());
+    trials("plain rasters", 20_000, |rng| {
+        let mut survey = Survey::good(rng);
+        if rng.percent(25) {
+            survey.hurt(rng);
+        }
+        let mut text = survey.text(rng);
+        for _ in 0..rng.pick(&[0, 0, 1, 2]) {
+            hurt_text(rng, &mut text);
+        }
+        let mut ground = room(rng, survey.columns * survey.rows);
+        let mut expected = ground.clone();
+        let answer = model::read_raster(&text, &mut expected);
+        assert_eq!(plain::read_raster(&text, &mut ground), answer, "{}", String::from_utf8_lossy(&text));
+        assert!(ground == expected);
+        read.count(answer.number);
+
+        let mut site = wild::any(rng);
+        if rng.percent(90) {
+            site.card.dy = site.card.dx;
+        }
+        let bytes = rng.between(0, 2_000) as usize;
+        let (mut text, mut expected) = (vec![7; bytes], vec![7; bytes]);
+        let wrote = model::write_raster(site.card, &site.ground, &mut expected);
+        assert_eq!(plain::write_raster(site.card, &site.ground, &mut text), wrote);
+        assert!(text == expected);
+        written.count(wrote.number);
+    });
+    read.assert_often("plain rasters read", &[0, 1, 2, 3, 10], 60);
+    written.assert_often("plain rasters written", &[0, 1, 2, 3, 8], 60);
 }
 
 #[test]

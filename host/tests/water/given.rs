@@ -4,7 +4,7 @@ use crate::trials::single;
 
 /// How often each number was given.
 #[derive(Default, Debug)]
-pub struct Given([u64; 10]);
+pub struct Given([u64; 11]);
 
 impl Given {
     /// Counts a number; 6 is unused, and no call gives it.
@@ -15,7 +15,7 @@ impl Given {
 
     /// Each of these numbers in at least one case of so many.
     pub fn assert_some(&self, what: &str, numbers: &[u32], one_in: u64) {
-        println!("{what}: how often 0 to 9 were given: {:?}", self.0);
+        println!("{what}: how often 0 to 10 were given: {:?}", self.0);
         let all: u64 = self.0.iter().sum();
         for &number in numbers {
             let times = self.0[number as usize];
@@ -26,7 +26,7 @@ impl Given {
     /// Each of these numbers in at least one case of so many, no other at all.
     pub fn assert_often(&self, what: &str, numbers: &[u32], one_in: u64) {
         self.assert_some(what, numbers, one_in);
-        for number in (0..10).filter(|number| !numbers.contains(number)) {
+        for number in (0..11).filter(|number| !numbers.contains(number)) {
             assert_eq!(self.0[number as usize], 0, "{what}: {number} is never given");
         }
     }

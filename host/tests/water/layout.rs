@@ -2,7 +2,8 @@
 //! reads and writes each field at its place is seen wherever a test compares records whose fields all differ.
 
 use std::mem::{align_of, size_of};
-use water::raw::{Card, Chamber, Found, Heard, Pump, Staff, Tally, Window, Wrote, WATER_FEET, WATER_METRES, WATER_NOTHING};
+use water::raw::{Card, Chamber, Found, Heard, Pump, Raster, Staff, Tally, Window, Wrote};
+use water::raw::{WATER_FEET, WATER_METRES, WATER_NOTHING, WATER_RASTER_BYTES};
 
 macro_rules! offsets {
     ($record:ty: $($field:ident)*) => {{
@@ -12,11 +13,11 @@ macro_rules! offsets {
     }};
 }
 
-/// The header's version is the package's first number: both change where an older caller would no longer fit.
+/// The header's version is the one that the package's declarations are of.
 #[test]
 fn the_header_has_the_packages_version() {
     let header = include_str!("../../../include/water.h");
-    let version = concat!("#define WATER_VERSION ", env!("CARGO_PKG_VERSION_MAJOR"));
+    let version = format!("#define WATER_VERSION {}", water::raw::VERSION);
     let defined: Vec<&str> = header.lines().filter(|line| line.contains("WATER_VERSION")).collect();
     assert_eq!(defined, [version]);
 }
@@ -27,6 +28,14 @@ fn the_header_has_the_packages_kinds() {
     let header = include_str!("../../../include/water.h");
     let kinds = format!("enum {{ WATER_NOTHING = {WATER_NOTHING}, WATER_METRES = {WATER_METRES}, WATER_FEET = {WATER_FEET} }};");
     assert_eq!(header.lines().filter(|&line| line == kinds).count(), 1, "{kinds}");
+}
+
+/// And so is its room for a raster.
+#[test]
+fn the_header_has_the_packages_room_for_a_raster() {
+    let header = include_str!("../../../include/water.h");
+    let room = format!("#define WATER_RASTER_BYTES {WATER_RASTER_BYTES}");
+    assert_eq!(header.lines().filter(|&line| line == room).count(), 1, "{room}");
 }
 
 #[test]
@@ -50,4 +59,6 @@ fn records_are_laid_out_as_in_the_header() {
     assert_eq!(offsets!(Wrote: number size), [0, 4]);
     assert_eq!((size_of::<Staff>(), align_of::<Staff>()), (12, 4));
     assert_eq!(offsets!(Staff: number read height), [0, 4, 8]);
+    assert_eq!((size_of::<Raster>(), align_of::<Raster>()), (16, 4));
+    assert_eq!(offsets!(Raster: number columns rows side), [0, 4, 8, 12]);
 }

@@ -7,7 +7,7 @@
 use crate::lent::Lent;
 use crate::model;
 use crate::rng::Rng;
-use water::raw::{self, Card, Chamber, Found, Heard, Staff, Tally, Window, Wrote};
+use water::raw::{self, Card, Chamber, Found, Heard, Raster, Staff, Tally, Window, Wrote};
 
 type Model = fn(Card, ground: &[i32], state: &[i32], pumps: &[i32], next: &mut [i32]) -> u32;
 
@@ -179,6 +179,26 @@ pub fn depth_text(rng: &mut Rng, height: i32, scratch: &mut [u8]) -> usize {
     assert_eq!(length, expected, "depth text of {height} in {} bytes", scratch.len());
     t.assert_holds(scratch);
     length
+}
+
+pub fn read_raster(rng: &mut Rng, text: &[u8], ground: &mut [i32]) -> Raster {
+    let (t, g) = (Lent::new(rng, "text", text), Lent::new(rng, "ground", ground));
+    let answer = unsafe { raw::water_read_raster(t.pointer(), t.length(), g.pointer(), g.length()) };
+    let expected = model::read_raster(text, ground);
+    assert_eq!(answer, expected, "reading {:?} into {} words", String::from_utf8_lossy(text), ground.len());
+    t.assert_holds(text);
+    g.assert_holds(ground);
+    answer
+}
+
+pub fn write_raster(rng: &mut Rng, card: Card, ground: &[i32], text: &mut [u8]) -> Wrote {
+    let (g, t) = (Lent::new(rng, "ground", ground), Lent::new(rng, "text", text));
+    let wrote = unsafe { raw::water_write_raster(card, g.pointer(), g.length(), t.pointer(), t.length()) };
+    let expected = model::write_raster(card, ground, text);
+    assert_eq!(wrote, expected, "writing the raster of {card:?} into {} bytes", text.len());
+    g.assert_holds(ground);
+    t.assert_holds(text);
+    wrote
 }
 
 /// A staff reading is lent nothing.

@@ -24,6 +24,7 @@ mod numbers;
 mod player;
 mod ponds;
 mod pumps;
+mod raster;
 mod run;
 mod search;
 mod sheet;

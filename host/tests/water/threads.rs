@@ -5,7 +5,7 @@ use crate::model;
 use crate::rng::Rng;
 use crate::wild::{self, Wild};
 use std::thread;
-use water::raw::{Chamber, Window};
+use water::raw::{Card, Chamber, Window};
 
 #[test]
 fn calls_at_once() {
@@ -17,6 +17,7 @@ fn calls_at_once() {
                     let site = wild::any(rng);
                     steps(rng, site.clone());
                     sheets(rng, &site);
+                    rasters(rng, &site);
                     searches(rng, &site);
                     library::depth_text(rng, site.state.first().copied().unwrap_or(0), &mut [0; 7]);
                     library::staff(rng.below(4) as u32, rng.scaled(1, 200_000) as f64 / 1_000.0);
@@ -42,6 +43,13 @@ fn sheets(rng: &mut Rng, site: &Wild) {
     let mut bytes = vec![0xee; model::sheet_size(&wild::bounded(&site.card))];
     library::write_sheet(rng, site.card, &site.ground, &site.state, &mut bytes);
     library::read_sheet(rng, &bytes, &mut vec![-77; site.ground.len()], &mut vec![-88; site.state.len()]);
+}
+
+fn rasters(rng: &mut Rng, site: &Wild) {
+    let square = Card { dy: site.card.dx, ..site.card };
+    let mut text = vec![0xee; wild::bounded(&square).raster_room()];
+    let wrote = library::write_raster(rng, square, &site.ground, &mut text);
+    library::read_raster(rng, &text[..wrote.size as usize], &mut vec![-77; site.ground.len()]);
 }
 
 fn searches(rng: &mut Rng, site: &Wild) {

@@ -28,6 +28,7 @@ fn every_refusal_has_its_number() {
         (7, Refusal::TooFast),
         (8, Refusal::Room { needed: 3 }),
         (9, Refusal::Sheet),
+        (10, Refusal::Raster),
     ];
     for (number, refusal) in refusals {
         assert_eq!(refusal.number(), number);
@@ -48,6 +49,7 @@ fn the_lengths_of_any_card() {
         assert_eq!(card.northward_faces(), length(columns * (rows + 1)));
         assert_eq!(card.state_length(), length(3 * columns * rows + columns + rows));
         assert_eq!(card.sheet_size(), length(19 + 16 * columns * rows + 4 * columns + 4 * rows));
+        assert_eq!(card.raster_room(), length(63 + 11 * columns * rows));
     }
 }
 

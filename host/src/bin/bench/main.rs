@@ -3,7 +3,8 @@
 //! `cargo run --release --bin bench` prints four tables: that of step and run, that of a refused step and the other calls, that of the
 //! textbook engine's step, and that of 64 pumps beside none. A step in plain Rust always divides, or, in the first table's second column,
 //! skips a division where what it would divide is 0. All must give the same answers and lists, or it stops.
-//! `cargo run --release --bin bench long` runs 10,000 steps on 128×128 and prints what a step costs along the way.
+//! `cargo run --release --bin bench long` runs 10,000 steps on 128×128 and prints what a step costs along the way; `bench pumps` prints the
+//! fourth table alone, and `bench rasters` what the second has of rasters.
 
 mod clock;
 mod machine;
@@ -204,6 +205,64 @@ fn bench_sheet(site: &Measured, water: &str) {
     row("read a sheet", card.columns, water, 1.0, medians);
 }
 
+/// The raster of a site's ground, written and read, and its refusals: by the first key, by the last value and for a byte of room. A raster
+/// knows nothing of water.
+fn bench_raster(site: &Measured) {
+    let Measured { card, ground, .. } = site;
+    let (mut text, mut plain_text) = (vec![0; card.raster_room()], vec![0; card.raster_room()]);
+    let mut size = 0;
+    let medians = compare([
+        &mut || {
+            size = calls::write_raster(*card, ground, &mut text).expect("a site in range");
+            seen(&mut text);
+        },
+        &mut || {
+            assert_eq!(plain::write_raster(*card, ground, &mut plain_text).number, 0);
+            seen(&mut plain_text);
+        },
+    ]);
+    assert!(text == plain_text, "both write alike");
+    row("write a raster", card.columns, "-", 1.0, medians);
+    let (mut short, mut plain_short) = (vec![0; size - 1], vec![0; size - 1]);
+    let medians = compare([
+        &mut || {
+            assert_eq!(calls::write_raster(*card, ground, &mut short), Err(Refusal::Room { needed: size }));
+            seen(&mut short);
+        },
+        &mut || {
+            assert_eq!(plain::write_raster(*card, ground, &mut plain_short).number, 8);
+            seen(&mut plain_short);
+        },
+    ]);
+    assert!(short == plain_short, "both leave the text as lent");
+    row("write a raster, refused for a byte of room (8)", card.columns, "-", 1.0, medians);
+
+    text.truncate(size);
+    bench_raster_read("read a raster", card, &text, 0);
+    let mut other_key = text.clone();
+    other_key[0] = b'x';
+    bench_raster_read("read a raster, refused by its first key (10)", card, &other_key, 10);
+    let last = text.iter().rposition(|&byte| byte == b' ').expect("more than one value");
+    let too_high = [&text[..last], b" 50.000001\n"].concat();
+    bench_raster_read("read a raster, refused by its last value (3)", card, &too_high, 3);
+}
+
+fn bench_raster_read(work: &str, card: &Card, text: &[u8], expected: u32) {
+    let (mut ground, mut plain_ground) = (vec![7; card.cells()], vec![7; card.cells()]);
+    let medians = compare([
+        &mut || {
+            assert_eq!(number(&calls::read_raster(text, &mut ground)), expected);
+            seen(&mut ground);
+        },
+        &mut || {
+            assert_eq!(plain::read_raster(text, &mut plain_ground).number, expected);
+            seen(&mut plain_ground);
+        },
+    ]);
+    assert!(ground == plain_ground && (ground == vec![7; card.cells()]) == (expected > 0), "both read alike");
+    row(work, card.columns, "-", 1.0, medians);
+}
+
 /// Readings have no site and no water.
 fn bench_staff() {
     let readings = readings();
@@ -340,6 +399,15 @@ fn pumped_table() {
     }
 }
 
+// Rasters alone; the second table has them too.
+fn raster_table() {
+    println!("| work | site | water | ours, µs | plain Rust, µs | ratio |");
+    println!("|---|---|---|---|---|---|");
+    for size in [8, 128] {
+        bench_raster(&site(size, Water::Moving));
+    }
+}
+
 fn main() {
     let (machine, native) = machine::kind();
     println!("Machine: {machine}.");
@@ -352,6 +420,9 @@ fn main() {
     }
     if std::env::args().any(|word| word == "pumps") {
         return pumped_table();
+    }
+    if std::env::args().any(|word| word == "rasters") {
+        return raster_table();
     }
     println!("| work | site | water | ours, µs | plain Rust, µs | ratio | plain Rust that skips, µs | ratio |");
     println!("|---|---|---|---|---|---|---|---|");
@@ -370,6 +441,7 @@ fn main() {
         bench_refused(&site, "moving");
         bench_search(&site, "moving");
         bench_sheet(&site, "moving");
+        bench_raster(&site);
     }
     bench_staff();
     println!();

@@ -134,6 +134,43 @@ pub fn write_into(site: Wild, room: usize) -> Call {
     Box::new(move || calls::write_sheet(site.card, &site.ground, &site.state, &mut bytes).map(drop))
 }
 
+/// The text of a raster of so many columns and rows, with the longest values there are and a no-data value.
+pub fn raster(side: usize) -> String {
+    let head = format!("ncols {side}\nnrows {side}\nxllcorner 0\nyllcorner 0\ncellsize 1\nNODATA_value -9999\n");
+    head + &"-000000000049.999999\r\n".repeat(side * side)
+}
+
+/// The raster reader, on a list of so many words.
+pub fn read_raster(text: String, length: usize) -> Call {
+    let mut ground = vec![0; length];
+    Box::new(move || calls::read_raster(text.as_bytes(), &mut ground).map(drop))
+}
+
+/// A site as deep as its raster has the longest values.
+pub fn deep(side: u32) -> Wild {
+    let mut site = site(side);
+    site.ground.fill(-49_999_999);
+    site
+}
+
+/// One whose last ground level is out of range: refusal 3.
+pub fn too_deep(side: u32) -> Wild {
+    let mut site = deep(side);
+    *site.ground.last_mut().unwrap() = -50_000_001;
+    site
+}
+
+/// The raster writer, into room for any ground of the site.
+pub fn write_raster(site: Wild) -> Call {
+    let room = site.card.raster_room();
+    write_raster_into(site, room)
+}
+
+pub fn write_raster_into(site: Wild, room: usize) -> Call {
+    let mut text = vec![0; room];
+    Box::new(move || calls::write_raster(site.card, &site.ground, &mut text).map(drop))
+}
+
 /// The depth text; none of a height counts as the bad value that it is.
 pub fn text(height: i32) -> Call {
     let mut scratch = [0; 7];

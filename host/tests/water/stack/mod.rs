@@ -263,10 +263,41 @@ fn staff_takes_what_is_named() {
     holds("an overflow", named.refused, Err(Refusal::Value), Reading::Feet(f64::MAX));
 }
 
+#[test]
+fn read_raster_takes_what_is_named() {
+    let named = header("water_read_raster");
+    let holds = |case: &str, named, answer, text: fn() -> String, length| {
+        holds(&format!("read a raster, {case}"), named, answer, || cases::read_raster(text(), length))
+    };
+    holds("128×128", named.any, Ok(()), || cases::raster(128), 16_384);
+    holds("32×32", named.small, Ok(()), || cases::raster(32), 1_024);
+    holds("1×1", named.small, Ok(()), || cases::raster(1), 1);
+    holds("no text", named.refused, Err(Refusal::Raster), String::new, 0);
+    holds("a bad word at the end", named.refused, Err(Refusal::Raster), || cases::raster(128) + "x", 16_384);
+    holds("a value too many", named.refused, Err(Refusal::Raster), || cases::raster(128) + "0", 16_384);
+    holds("too wide", named.refused, Err(Refusal::Card), || cases::raster(129), 16_641);
+    holds("a list too short", named.refused, Err(Refusal::Length), || cases::raster(128), 16_383);
+    holds("a bad value", named.refused, Err(Refusal::Value), || cases::raster(128).replace("49.999999", "50.000001"), 16_384);
+}
+
+#[test]
+fn write_raster_takes_what_is_named() {
+    let named = header("water_write_raster");
+    holds("write a raster, 128×128", named.any, Ok(()), || cases::write_raster(cases::deep(128)));
+    holds("write a raster, 8×8", named.small, Ok(()), || cases::write_raster(cases::deep(8)));
+    let short = Err(Refusal::Room { needed: 762 });
+    holds("write a raster, no room", named.small, short, || cases::write_raster_into(cases::deep(8), 761));
+    holds("write a raster, a bad card", named.refused, Err(Refusal::Card), || cases::write_raster(cases::no_time(128)));
+    holds("write a raster, an empty card", named.refused, Err(Refusal::Card), || cases::write_raster(cases::nothing()));
+    holds("write a raster, a list too short", named.refused, Err(Refusal::Length), || cases::write_raster(cases::short(128)));
+    holds("write a raster, a bad value", named.refused, Err(Refusal::Value), || cases::write_raster(cases::too_deep(128)));
+}
+
 /// The page of the package says the same.
 #[test]
 fn both_pages_name_the_same_stack() {
-    for call in ["step", "step_textbook", "run", "search", "search_lists", "read_sheet", "write_sheet", "depth_text", "staff"] {
+    let sheets = ["read_sheet", "write_sheet", "read_raster", "write_raster"];
+    for call in ["step", "step_textbook", "run", "search", "search_lists", "depth_text", "staff"].into_iter().chain(sheets) {
         assert_eq!(named(PACKAGE, &format!("calls::{call}")), header(&format!("water_{call}")), "{call}");
     }
 }

@@ -43,4 +43,6 @@ fn all_other_calls() {
     answers("write", Ok(()), cases::write(cases::site(128)));
     answers("text", Ok(()), cases::text(50_000_000));
     answers("staff", Ok(()), cases::staff(Reading::Feet(164.0)));
+    answers("read a raster", Ok(()), cases::read_raster(cases::raster(128), 16_384));
+    answers("write a raster", Ok(()), cases::write_raster(cases::deep(128)));
 }

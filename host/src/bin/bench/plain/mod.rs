@@ -3,12 +3,14 @@
 //! holds it to the model.
 
 mod pumps;
+mod raster;
 mod search;
 mod sheet;
 mod site;
 mod staff;
 mod step;
 
+pub use raster::{read_raster, write_raster};
 pub use search::{search, search_lists};
 pub use sheet::{read_sheet, write_sheet};
 pub use staff::staff;
