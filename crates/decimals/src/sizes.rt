@@ -58,6 +58,7 @@ fn fraction_from(word: &[u8], at: usize, number: u64) -> Sized
     }
 }
 
+// No such decimal has more than 19 bytes: twelve digits, a point and six digits.
 pub fn size_in(word: &[u8]) -> Sized
     ensures fits { λ r. ⌜ r .fits ≡ unsignedFits (now (word .entry)) ⌝ }
     ensures size { λ r. ⌜ r .size ≡ cond (r .fits) (sizeOf (now (word .entry))) 0 ⌝ }

@@ -1,7 +1,7 @@
 -- The numbers of the checks taken apart and put together: 0 exactly where every test passes.
 use Prim.Native.Nat.{ℕ, _≤_}
-use mathlib.Core.Path.{_≡_, refl, sym}
-use mathlib.Core.Bool.{Bool, true, false, _&&_}
+use mathlib.Core.Path.{_≡_, refl, sym, ap, ap₂}
+use mathlib.Core.Bool.{Bool, true, false, cond, _&&_}
 use native.Mathlib.Nat.{suc-ne-zero}
 use native.Mathlib.Omega.{arith}
 use lib.Dec.{T}
@@ -32,6 +32,20 @@ at-most-3 false l v = omega arith
 at-most-3 true false v = omega arith
 at-most-3 true true false = omega arith
 at-most-3 true true true = omega arith
+
+-- one after the other, as a function looks for them
+pub not-card : (l v : Bool) {a : Bool} → a ≡ false → 1 ≡ firstOf a l v
+unfolding firstOf
+not-card l v e = sym (ap (λ (t : Bool). firstOf t l v) e)
+
+pub not-lengths : (v : Bool) {a l : Bool} → a ≡ true → l ≡ false → 2 ≡ firstOf a l v
+unfolding firstOf
+not-lengths v e f = sym (ap₂ (λ (s t : Bool). firstOf s t v) e f)
+
+pub by-values : (v : Bool) {a l : Bool} → a ≡ true → l ≡ true → firstOf a l v ≡ cond v 0 3
+unfolding firstOf
+by-values true e f = ap₂ (λ (s t : Bool). firstOf s t true) e f
+by-values false e f = ap₂ (λ (s t : Bool). firstOf s t false) e f
 
 -- a test for 2 that is made only where the card passes, since only then it can be made
 pub after-card : (one card two lengths values : Bool) → firstOf (one && card) ((card && two) && lengths) values ≡ firstOf (one && card) (two && lengths) values

@@ -1,6 +1,6 @@
 -- What the first three checks say of a card, a ground and a state, as facts that a proof can use.
 use Prim.Native.Nat.{ℕ, suc, _+_, _*_, _≤_, _<_, zero-le}
-use mathlib.Core.Path.{_≡_, refl, subst}
+use mathlib.Core.Path.{_≡_, refl, ap₂, subst}
 use mathlib.Core.Bool.{Bool, true, false, _&&_}
 use mathlib.Core.List.{List}
 use native.Mathlib.Nat.{mul-le-mul}
@@ -9,7 +9,7 @@ use lib.IntN.{ℤ, pos, negsuc, natAbs}
 use lib.Signed.{leZ}
 use lib.ListN.{length, getD, List·getD-eq-default}
 use lib.Dec.{T, leb, ltb, eqb, leb→le, eqb→eq}
-use borrow.Author.Tests.{ltb-true, ltb-false}
+use borrow.Author.Tests.{ltb-true, ltb-false, le-leb}
 use lib.Arith.{digits-lt}
 use Rattle.rules.specs.declared.Card.{Card}
 use Rattle.rules.specs.Grid.{all}
@@ -45,6 +45,9 @@ record Inside (low high n : ℕ) : Type 0 where
 
 inside : (low high n : ℕ) → T (within low high n) → Inside low high n
 inside low high n t = record { low-end = leb→le low n (and-left (leb low n) (leb n high) t); high-end = leb→le n high (and-right (leb low n) (leb n high) t) }
+
+pub within-ends : (low high n : ℕ) → low ≤ n → n ≤ high → within low high n ≡ true
+within-ends low high n h k = ap₂ _&&_ (le-leb low n h) (le-leb n high k)
 
 pub card-facts : (c : Card) → cardFits c ≡ true → Ranges c
 unfolding cardFits sizesFit sidesFit timesFit stateLength

@@ -83,3 +83,14 @@ of-four a b c d f = and-both (a && b && c) d (and-both (a && b) c (and-both a b 
 
 pub to-T : {b : Bool} → b ≡ true → T b
 to-T e = subst T (sym e) tt
+
+-- two tests that are refused together, as the code puts them
+pub one-fails : (a b : Bool) → (not a || not b) ≡ true → (a && b) ≡ false
+one-fails true true e = sym e
+one-fails true false e = refl
+one-fails false b e = refl
+
+pub both-hold : (a b : Bool) → (not a || not b) ≡ false → (a && b) ≡ true
+both-hold true true e = refl
+both-hold true false e = sym e
+both-hold false b e = sym e

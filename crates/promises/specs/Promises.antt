@@ -69,8 +69,9 @@ pub use Rattle.promises.specs.Rasters.{raster-reads-back}
 -- every decimal is spelled so
 pub use Rattle.promises.specs.Rasters.{point-exact, digits-exact, minus-exact, plain-exact, decimal-spelled}
 -- and of a read that is done: the ground has at each column and row the value that stands there in the text, the northern row first there and last here; columns, rows,
--- side and ground are in their ranges, so that every call takes them; and no height is the no-data value
-pub use Rattle.promises.specs.Rasters.{value-at, value-decimal, ground-fits, ground-taken, never-no-data}
+-- side and ground are in their ranges, so that no call refuses a card for them or this ground; no height is the no-data value; and columns, rows and side are the
+-- text's own numbers
+pub use Rattle.promises.specs.Rasters.{value-at, value-decimal, ground-fits, ground-taken, never-no-data, columns-are, rows-are, side-is}
 
 -- ---- Demand 3
 

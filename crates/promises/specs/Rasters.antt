@@ -26,7 +26,8 @@ use Rattle.laws.specs.Numbers.{leZ-refl}
 use Rattle.laws.specs.Outcomes.{both-passed, if-done}
 use Rattle.raster_laws.specs.Digits.{front-all, rest-is}
 use Rattle.raster_laws.specs.Sizes.{is-count, scaled-up, unsigned-plain}
-use Rattle.raster_laws.specs.Figures.{within-ends, front-of, rest-of, number-append}
+use Rattle.laws.specs.Facts.{within-ends}
+use Rattle.raster_laws.specs.Figures.{front-of, rest-of, number-append}
 use Rattle.raster_laws.specs.Turned.{length-turned, turned-at, turned-keeps}
 use Rattle.raster_laws.specs.Looks.{value-read}
 use Rattle.raster_laws.specs.Done.{Done, is-done}
@@ -109,9 +110,9 @@ unfolding decimalValue signed
 plain-exact w e = rw (e, unsigned-plain w e)
 
 -- and so is every decimal: behind an optional minus it is spelled in one of these two ways
-pub data Spelled : List ℕ → Type 0 where
-  whole : (w : List ℕ) → digitsFit 12 w ≡ true → Spelled w
-  pointed : (w f : List ℕ) → digitsFit 12 w ≡ true → digitsFit 6 f ≡ true → Spelled (w ++ (46 ∷ f))
+pub data SpelledSize : List ℕ → Type 0 where
+  whole : (w : List ℕ) → digitsFit 12 w ≡ true → SpelledSize w
+  pointed : (w f : List ℕ) → digitsFit 12 w ≡ true → digitsFit 6 f ≡ true → SpelledSize (w ++ (46 ∷ f))
 
 front-digits : (w : List ℕ) → allDigits (digitsFront w) ≡ true
 unfolding digitsFront allDigits
@@ -131,9 +132,9 @@ front-and-rest (b ∷ w) = go (isDigit b) (front-and-rest w)
     go true e = ap (λ (l : List ℕ). b ∷ l) e
     go false e = refl
 
-size-spelled : (w : List ℕ) → unsignedFits w ≡ true → Spelled w
+size-spelled : (w : List ℕ) → unsignedFits w ≡ true → SpelledSize w
 unfolding unsignedFits fractionFits
-size-spelled w e = subst Spelled (front-and-rest w) (go (digitsRest w) (true-of two (and-right one two (to-T e))))
+size-spelled w e = subst SpelledSize (front-and-rest w) (go (digitsRest w) (true-of two (and-right one two (to-T e))))
   where
     one : Bool
     one = within 1 12 (length (digitsFront w))
@@ -144,13 +145,13 @@ size-spelled w e = subst Spelled (front-and-rest w) (go (digitsRest w) (true-of 
     front : digitsFit 12 (digitsFront w) ≡ true
     front = is-count 12 (digitsFront w) (true-of one (and-left one two (to-T e))) (front-digits w)
 
-    go : (v : List ℕ) → fractionFits v ≡ true → Spelled (digitsFront w ++ v)
-    go [] f = subst Spelled (sym (append-nil (digitsFront w))) (whole (digitsFront w) front)
+    go : (v : List ℕ) → fractionFits v ≡ true → SpelledSize (digitsFront w ++ v)
+    go [] f = subst SpelledSize (sym (append-nil (digitsFront w))) (whole (digitsFront w) front)
     go (b ∷ v) f =
-        subst (λ (x : ℕ). Spelled (digitsFront w ++ (x ∷ v))) (sym (eqb→eq b 46 (and-left (eqb b 46) (digitsFit 6 v) (to-T f))))
+        subst (λ (x : ℕ). SpelledSize (digitsFront w ++ (x ∷ v))) (sym (eqb→eq b 46 (and-left (eqb b 46) (digitsFit 6 v) (to-T f))))
         (pointed (digitsFront w) v front (true-of (digitsFit 6 v) (and-right (eqb b 46) (digitsFit 6 v) (to-T f))))
 
-pub decimal-spelled : (w : List ℕ) → isDecimal w ≡ true → Spelled (unsigned w)
+pub decimal-spelled : (w : List ℕ) → isDecimal w ≡ true → SpelledSize (unsigned w)
 unfolding isDecimal
 decimal-spelled w e = size-spelled (unsigned w) e
 
@@ -167,7 +168,7 @@ pub record GroundFits (answered : Raster) (g : List ℤ) : Type 0 where
   pub long : length g ≡ answered .rows * answered .columns
   pub small : (k : ℕ) → k < length g → natAbs (getD g k (pos 0)) ≤ 50000000
 
--- a ground and a card that no call refuses for 1, for the ground's length or for a height of the ground
+-- a card in its ranges, and a ground of its length with every level in range
 pub record Taken (c : Card) (g : List ℤ) : Type 0 where
   pub card : cardFits c ≡ true
   pub long : length g ≡ cells c
@@ -185,15 +186,15 @@ module _ (text : List ℕ) (lent : List ℤ) (answered : Raster) (groundAtExit :
   unfolding rasterNumber
   done = is-done ws (length lent) number-is
 
-  columns-are : answered .columns ≡ columnsIn ws
+  pub columns-are : answered .columns ≡ columnsIn ws
   unfolding readRasterAnswer
   columns-are = ap (λ (a : Raster). a .columns) (r .answer) ∙ if-done _ (columnsIn ws) 0 number-is
 
-  rows-are : answered .rows ≡ rowsIn ws
+  pub rows-are : answered .rows ≡ rowsIn ws
   unfolding readRasterAnswer
   rows-are = ap (λ (a : Raster). a .rows) (r .answer) ∙ if-done _ (rowsIn ws) 0 number-is
 
-  side-is : answered .side ≡ natAbs (sideIn ws)
+  pub side-is : answered .side ≡ natAbs (sideIn ws)
   unfolding readRasterAnswer
   side-is = ap (λ (a : Raster). a .side) (r .answer) ∙ if-done _ (natAbs (sideIn ws)) 0 number-is
 

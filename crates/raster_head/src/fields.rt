@@ -1,7 +1,7 @@
 // A key and the word behind it. Each is looked at only where all before it was right, so that a text that is no raster is refused at its first wrong word.
 ghost use Prim.Native.Nat.{_≤_};
 ghost use lib.ListN.{length};
-ghost use Rattle.raster_laws.specs.Fields.{NamedAt, CountedAt, MeasuredAt, LackingAt};
+ghost use Rattle.raster_laws.specs.Fields.{NamedAt, CountedAt, MeasuredAt, NoDataAt};
 use crate::keys;
 
 // Whether a key stands there, and the word behind it.
@@ -26,8 +26,8 @@ pub struct Measured {
     pub end: usize,
 }
 
-// Whether the no-data key stands there, with a decimal if so; its sign and size, and where the values begin.
-pub struct Lacking {
+// Whether that is right which stands there: the key for no data with a decimal, or another word; whether the key is given, the decimal's sign and size, and where the values begin.
+pub struct NoData {
     pub fits: bool,
     pub given: bool,
     pub minus: bool,
@@ -113,13 +113,13 @@ pub fn measure_at(text: &[u8], ok: bool, at: usize, key: &[u8]) -> Measured
 }
 
 // The key for no data with its decimal, or nothing at all.
-pub fn lack_at(text: &[u8], ok: bool, at: usize) -> Lacking
+pub fn no_data_at(text: &[u8], ok: bool, at: usize) -> NoData
     requires { ⌜ at ≤ length (now text) ⌝ }
-    ensures { λ r. ⌜ LackingAt (now (text .entry)) ok at (r .fits) (r .given) (r .minus) (r .size) (r .end) ⌝ }
+    ensures { λ r. ⌜ NoDataAt (now (text .entry)) ok at (r .fits) (r .given) (r .minus) (r .size) (r .end) ⌝ }
 {
     let value = name_at(text, ok, at, b"nodata_value");
     if !value.fits {
-        return Lacking {
+        return NoData {
             fits: ok,
             given: false,
             minus: false,
@@ -130,7 +130,7 @@ pub fn lack_at(text: &[u8], ok: bool, at: usize) -> Lacking
     let start = value.start;
     let end = value.end;
     let decimal = decimals::decimal_in(&text[start..end]);
-    Lacking {
+    NoData {
         fits: decimal.fits,
         given: true,
         minus: decimal.minus,

@@ -9,31 +9,31 @@ pub struct Head {
     pub rows: u64,
     pub minus: bool,
     pub side: u64,
-    pub lacks: bool,
-    pub lackMinus: bool,
-    pub lack: u64,
+    pub given: bool,
+    pub noDataMinus: bool,
+    pub noData: u64,
     pub end: usize,
 }
 
 // The corner is checked and dropped.
 pub fn head_in(text: &[u8]) -> Head
-    ensures { λ r. ⌜ Headed (now (text .entry)) (r .fits) (r .columns) (r .rows) (r .minus) (r .side) (r .lacks) (r .lackMinus) (r .lack) (r .end) ⌝ }
+    ensures { λ r. ⌜ Headed (now (text .entry)) (r .fits) (r .columns) (r .rows) (r .minus) (r .side) (r .given) (r .noDataMinus) (r .noData) (r .end) ⌝ }
 {
     let columns = fields::count_at(text, true, 0, b"ncols");
     let rows = fields::count_at(text, columns.fits, columns.end, b"nrows");
     let x = fields::measure_at(text, rows.fits, rows.end, b"xllcorner");
     let y = fields::measure_at(text, x.fits, x.end, b"yllcorner");
     let side = fields::measure_at(text, y.fits, y.end, b"cellsize");
-    let lack = fields::lack_at(text, side.fits, side.end);
+    let noData = fields::no_data_at(text, side.fits, side.end);
     Head {
-        fits: lack.fits,
+        fits: noData.fits,
         columns: columns.number,
         rows: rows.number,
         minus: side.minus,
         side: side.size,
-        lacks: lack.given,
-        lackMinus: lack.minus,
-        lack: lack.size,
-        end: lack.end,
+        given: noData.given,
+        noDataMinus: noData.minus,
+        noData: noData.size,
+        end: noData.end,
     }
 }

@@ -1,16 +1,14 @@
 -- The reader's number, from what the look over a text has found.
-use Prim.Native.Nat.{ℕ, zero, suc, _+_, _*_, _/_, _%_, _≤_, _<_}
+use Prim.Native.Nat.{ℕ, zero, suc, _*_, _≤_, _<_}
 use mathlib.Core.Path.{_≡_, refl, sym, ap, ap₂, _∙_, subst}
 use mathlib.Core.Bool.{Bool, true, false, cond, not, _&&_}
 use mathlib.Core.List.{List, []}
 use native.Mathlib.Omega.{arith}
-use native.Mathlib.Nat.{add-zero, mul-zero, div-add-mod'}
-use lib.Arith.{digits-div, digits-mod}
 use lib.IntN.{ℤ, pos, natAbs}
 use lib.Signed.{leZ}
 use lib.ListN.{length, drop}
 use lib.Dec.{leb, eqb}
-use borrow.Author.Tests.{eqb-true, eqb-false, eq-eqb}
+use borrow.Author.Tests.{eqb-true}
 use Rattle.rules.specs.Site.{within, firstOf, groundFits, ifDone}
 use Rattle.rules.specs.Raster.{wordsOf, word, isDecimal, decimalValue, signed, headFits, columnsIn, rowsIn, sideIn, noDataIn, valueWords, valuesIn, isRaster, rasterSizesFit, isNoData, rasterValuesFit, rasterNumberOf, rasterNumber, rasterGround}
 use Rattle.rules.specs.Calls.{readRasterAnswer, readRasterGround}
@@ -21,35 +19,6 @@ use Rattle.laws.specs.Outcomes.{if-refused}
 use Rattle.raster_laws.specs.Heads.{Headed}
 use Rattle.raster_laws.specs.Looks.{Looked, valueFits, value-read, size-signed}
 use Rattle.raster_laws.specs.Done.{is-done}
-
--- ---- A product that is not made
-
-pub product-none : (n columns rows : ℕ) → columns ≡ 0 → eqb n 0 ≡ eqb n (rows * columns)
-product-none n columns rows e = ap (eqb n) (sym (ap (λ (m : ℕ). rows * m) e ∙ mul-zero rows))
-
-pub product-by-quotient : (n columns rows : ℕ) → (columns ≡ 0 → ⊥) → (eqb (n % columns) 0 && eqb (n / columns) rows) ≡ eqb n (rows * columns)
-product-by-quotient n columns rows some = go (eqb n (rows * columns)) refl
-  where
-    low : 0 < columns
-    low = omega arith
-
-    go : (t : Bool) → eqb n (rows * columns) ≡ t → (eqb (n % columns) 0 && eqb (n / columns) rows) ≡ t
-    go true e =
-        let is : n ≡ rows * columns + 0 = eqb-true n (rows * columns) e ∙ sym (add-zero (rows * columns)) in
-        ap₂ _&&_
-        (eq-eqb (n % columns) 0 (ap (λ (m : ℕ). m % columns) is ∙ digits-mod rows low))
-        (eq-eqb (n / columns) rows (ap (λ (m : ℕ). m / columns) is ∙ digits-div rows low))
-    go false e = pick (eqb (n % columns) 0) (eqb (n / columns) rows) refl refl
-      where
-        pick : (s t : Bool) → eqb (n % columns) 0 ≡ s → eqb (n / columns) rows ≡ t → (s && t) ≡ false
-        pick false t f g = refl
-        pick true false f g = refl
-        pick true true f g =
-            absurd
-            (eqb-false n (rows * columns) e
-            (sym (div-add-mod' n columns)
-            ∙ ap₂ (λ (q r : ℕ). q * columns + r) (eqb-true (n / columns) rows g) (eqb-true (n % columns) 0 f)
-            ∙ add-zero (rows * columns)))
 
 -- ---- A side in its range
 
@@ -95,9 +64,9 @@ pub no-head : (text : List ℕ) (n : ℕ) → headFits (wordsOf text) ≡ false 
 unfolding rasterNumber rasterNumberOf isRaster
 no-head text n e = sym (rw e)
 
-module _ {text : List ℕ} {fits : Bool} {columns rows : ℕ} {minus : Bool} {side : ℕ} {lacks lackMinus : Bool} {lack end : ℕ} {decimals : Bool} {count : ℕ} {fit : Bool}
-    (h : Headed text fits columns rows minus side lacks lackMinus lack end)
-    (l : Looked (wordsOf (drop end text)) lacks (signed lackMinus lack) decimals count fit)
+module _ {text : List ℕ} {fits : Bool} {columns rows : ℕ} {minus : Bool} {side : ℕ} {given noDataMinus : Bool} {noData end : ℕ} {decimals : Bool} {count : ℕ} {fit : Bool}
+    (h : Headed text fits columns rows minus side given noDataMinus noData end)
+    (l : Looked (wordsOf (drop end text)) given (signed noDataMinus noData) decimals count fit)
     (f : fits ≡ true) where
   abbrev ws : List (List ℕ)
   ws = wordsOf text
@@ -106,8 +75,8 @@ module _ {text : List ℕ} {fits : Bool} {columns rows : ℕ} {minus : Bool} {si
   values = valueWords ws
 
   -- the look was over the values
-  l′ : Looked values lacks (signed lackMinus lack) decimals count fit
-  l′ = subst (λ (v : List (List ℕ)). Looked v lacks (signed lackMinus lack) decimals count fit) (h .values f) l
+  l′ : Looked values given (signed noDataMinus noData) decimals count fit
+  l′ = subst (λ (v : List (List ℕ)). Looked v given (signed noDataMinus noData) decimals count fit) (h .values f) l
 
   cells : rows * columns ≡ rowsIn ws * columnsIn ws
   cells = ap₂ _*_ (h .rows-are f) (h .columns-are f)
@@ -129,12 +98,12 @@ module _ {text : List ℕ} {fits : Bool} {columns rows : ℕ} {minus : Bool} {si
       ∙ ap (λ (s : ℤ). within 1 128 (columnsIn ws) && within 1 128 (rowsIn ws) && (leZ (pos 100000) s && leZ s (pos 20000000))) (h .side-is f)
 
   -- the no-data value is compared only where one is given
-  one-fits : (z : ℤ) → valueFits lacks (signed lackMinus lack) z ≡ (groundFits z && not (isNoData ws z))
+  one-fits : (z : ℤ) → valueFits given (signed noDataMinus noData) z ≡ (groundFits z && not (isNoData ws z))
   unfolding isNoData
-  one-fits z = ap (λ (t : Bool). groundFits z && not t) (go lacks refl ∙ ap (λ (t : Bool). t && (leZ z (noDataIn ws) && leZ (noDataIn ws) z)) (h .lacks-so f))
+  one-fits z = ap (λ (t : Bool). groundFits z && not t) (go given refl ∙ ap (λ (t : Bool). t && (leZ z (noDataIn ws) && leZ (noDataIn ws) z)) (h .given-so f))
     where
-      go : (t : Bool) → lacks ≡ t → (t && (leZ z (signed lackMinus lack) && leZ (signed lackMinus lack) z)) ≡ (t && (leZ z (noDataIn ws) && leZ (noDataIn ws) z))
-      go true e = ap (λ (y : ℤ). leZ z y && leZ y z) (h .lack-is f e)
+      go : (t : Bool) → given ≡ t → (t && (leZ z (signed noDataMinus noData) && leZ (signed noDataMinus noData) z)) ≡ (t && (leZ z (noDataIn ws) && leZ (noDataIn ws) z))
+      go true e = ap (λ (y : ℤ). leZ z y && leZ y z) (h .no-data-is f e)
       go false e = refl
 
   values-fit : decimals ≡ true → fit ≡ rasterValuesFit ws

@@ -69,7 +69,7 @@ pub record MeasuredAt (text : List ℕ) (ok : Bool) (at : ℕ) (key : List ℕ) 
 
 -- the key for no data with its decimal, or neither
 
-pub record LackingAt (text : List ℕ) (ok : Bool) (at : ℕ) (fits given minus : Bool) (size end : ℕ) : Type 0 where
+pub record NoDataAt (text : List ℕ) (ok : Bool) (at : ℕ) (fits given minus : Bool) (size end : ℕ) : Type 0 where
   pub within : end ≤ length text
   pub says : fits ≡ (ok && (not (isKey nodataValue (word (wordsOf (drop at text)) 0)) || isDecimal (word (wordsOf (drop at text)) 1)))
   pub asked : fits ≡ true → given ≡ isKey nodataValue (word (wordsOf (drop at text)) 0)
@@ -131,8 +131,8 @@ module _ {text : List ℕ} {ok : Bool} {at : ℕ} {key : List ℕ} {start end : 
   }
 
 module _ {text : List ℕ} {ok : Bool} {at start end : ℕ} where
-  pub lack-none : {fits : Bool} → at ≤ length text → NamedAt text ok at nodataValue fits start end → fits ≡ false → LackingAt text ok at ok false false 0 at
-  lack-none h n e = record {
+  pub no-data-none : {fits : Bool} → at ≤ length text → NamedAt text ok at nodataValue fits start end → fits ≡ false → NoDataAt text ok at ok false false 0 at
+  no-data-none h n e = record {
     within = h;
     says = says-so ok (isKey nodataValue (word (wordsOf (drop at text)) 0)) _ (sym (n .says) ∙ e);
     asked = λ t. asked-so ok (isKey nodataValue (word (wordsOf (drop at text)) 0)) t (sym (n .says) ∙ e);
@@ -149,10 +149,10 @@ module _ {text : List ℕ} {ok : Bool} {at start end : ℕ} where
       asked-so true b t f = sym f
       asked-so false b t f = never t
 
-  pub lack-some : {fits f minus : Bool} {size : ℕ} → NamedAt text ok at nodataValue fits start end → fits ≡ true
+  pub no-data-some : {fits f minus : Bool} {size : ℕ} → NamedAt text ok at nodataValue fits start end → fits ≡ true
       → f ≡ isDecimal (between text start end) → minus ≡ isMinus (between text start end) → size ≡ cond f (sizeOf (unsigned (between text start end))) 0
-      → LackingAt text ok at f true minus size end
-  lack-some {f = f} n e d m s = record {
+      → NoDataAt text ok at f true minus size end
+  no-data-some {f = f} n e d m s = record {
     within = n .within;
     says = d ∙ ap isDecimal (n .is e) ∙ says-so ok (isKey nodataValue (word (wordsOf (drop at text)) 0)) _ (sym (n .says) ∙ e);
     asked = λ t. asked-so ok (isKey nodataValue (word (wordsOf (drop at text)) 0)) (sym (n .says) ∙ e);

@@ -7,17 +7,15 @@ use native.Mathlib.Nat.{pow-suc}
 use native.Mathlib.Omega.{arith}
 use lib.ListN.{length, length-append}
 use lib.Dec.{ltb}
-use borrow.Author.Tests.{ltb-true, le-leb, ne-eqb}
+use borrow.Author.Tests.{ltb-true, ne-eqb}
 use Rattle.rules.specs.Site.{within}
 use Rattle.rules.specs.Text.{digitsOf, decimal}
 use Rattle.rules.specs.Raster.{partsWords, isDigit, digitsFront, digitsRest, allDigits, digitsFit, numberBehind, numberOf}
 use Rattle.laws.specs.Decimals.{length-decimal}
+use Rattle.laws.specs.Facts.{within-ends}
 use Rattle.raster_laws.specs.Digits.{digit-low, digits-first, digits-others}
 use Rattle.raster_laws.specs.Sizes.{is-count}
 use Rattle.raster_laws.specs.Spelled.{unparted}
-
-pub within-ends : (low high n : ℕ) → low ≤ n → n ≤ high → within low high n ≡ true
-within-ends low high n h k = ap₂ _&&_ (le-leb low n h) (le-leb n high k)
 
 -- ---- Digits and nothing else, taken apart and put together
 

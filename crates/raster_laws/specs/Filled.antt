@@ -131,8 +131,8 @@ module _ {text : List ℕ} {n columns rows at : ℕ} (f : Passes text n columns 
   target-long : length target ≡ rows * columns
   target-long = ap length target-is ∙ length-grid columns rows _
 
-  pub fill-none : {ground : List ℤ} → length ground ≡ n → Filling text n columns rows at rows at ground
-  fill-none {ground} e = record {
+  fill-start : {ground : List ℤ} → length ground ≡ n → Filling text n columns rows at rows at ground
+  fill-start {ground} e = record {
     most = omega arith;
     within = f .within;
     rest = f .values ∙ ap (λ (k : ℕ). drop k values) (sym none);
@@ -142,6 +142,9 @@ module _ {text : List ℕ} {n columns rows at : ℕ} (f : Passes text n columns 
     where
       none : (rows - rows) * columns ≡ 0
       none = ap (λ (k : ℕ). k * columns) (let z : rows - rows ≡ 0 = omega arith in z) ∙ zero-mul columns
+
+  pub fill-none : {ground : List ℤ} → length ground ≡ n → Filling text n columns rows at (rows - 0) at ground
+  fill-none {ground} e = subst (λ (k : ℕ). Filling text n columns rows at k at ground) (let z : rows ≡ rows - 0 = omega arith in z) (fill-start e)
 
   -- the next row to the south
   module _ {row p : ℕ} {ground : List ℤ} (g : Filling text n columns rows at row p ground) (k : ℕ) (e : row ≡ suc k) (m : ℕ) (w : m ≡ columns) where
@@ -158,7 +161,7 @@ module _ {text : List ℕ} {n columns rows at : ℕ} (f : Passes text n columns 
     word-there : (i : ℕ) → word (wordsOf (drop p text)) i ≡ word values (read + i)
     word-there i = ap (λ (l : List (List ℕ)). word l i) (g .rest) ∙ getD-drop read values i []
 
-    pub fill-readable : Readable text p m
+    fill-readable : Readable text p m
     fill-readable = record {
       within = g .within;
       many = omega (arith, ap length (g .rest), length-drop read values, f .count, shared, w);
@@ -192,7 +195,7 @@ module _ {text : List ℕ} {n columns rows at : ℕ} (f : Passes text n columns 
       below : start ≤ length ground
       below = omega (arith, g .long, f .long, shared, st)
 
-      pub fill-more : (q : ℕ) → q ≡ columns → Filling text n columns rows at k end (putMid start q ground new)
+      fill-more : (q : ℕ) → q ≡ columns → Filling text n columns rows at k end (putMid start q ground new)
       fill-more q v = record {
         most = (let most = g .most in omega (arith, e, most));
         within = l .within;
@@ -227,32 +230,35 @@ module _ {text : List ℕ} {n columns rows at : ℕ} (f : Passes text n columns 
           next-row : start + q ≡ row * columns
           next-row = ap (λ (j : ℕ). start + j) v ∙ next-row′
 
-  -- where that row lies in the list
-  module _ {row p : ℕ} {ground : List ℤ} (g : Filling text n columns rows at row p ground) (less : 0 < row) where
-    down : row ≡ suc (row - 1)
+  -- a part of the list that is as long as a row, from `start` on, is lent for the next one
+  module _ {i p : ℕ} {ground : List ℤ} (g : Filling text n columns rows at (rows - i) p ground) (less : i < rows) (start : ℕ) (inside : start + columns ≤ rows * columns) where
+    abbrev south : ℕ
+    south = rows - 1 - i
+
+    down : rows - i ≡ suc south
     down = omega arith
 
-    pub row-inside : (row - 1) * columns + columns ≤ length ground
-    row-inside = omega (arith, shared g (row - 1) down columns refl, f .long, g .long)
+    abbrev part : List ℤ
+    part = take (start + columns - start) (drop start ground)
 
-    pub few-words : length ground ≤ 16384
-    few-words = omega (arith, g .long, f .long, mul-le-mul (f .high) (f .wide))
-
-    pub row-long : length (take ((row - 1) * columns + columns - (row - 1) * columns) (drop ((row - 1) * columns) ground)) ≡ columns
+    row-long : length part ≡ columns
     row-long =
-        let e : (row - 1) * columns + columns - (row - 1) * columns ≡ columns = omega arith in
-        length-take-le ((row - 1) * columns + columns - (row - 1) * columns) (drop ((row - 1) * columns) ground) (omega (arith, e, row-inside, length-drop ((row - 1) * columns) ground)) ∙ e
+        let e : start + columns - start ≡ columns = omega arith in
+        length-take-le (start + columns - start) (drop start ground) (omega (arith, e, inside, g .long, f .long, length-drop start ground)) ∙ e
 
-    pub row-readable : Readable text p (length (take ((row - 1) * columns + columns - (row - 1) * columns) (drop ((row - 1) * columns) ground)))
-    row-readable = fill-readable g (row - 1) down (length (take ((row - 1) * columns + columns - (row - 1) * columns) (drop ((row - 1) * columns) ground))) row-long
+    pub row-readable : Readable text p (length part)
+    row-readable = fill-readable g south down (length part) row-long
 
-    pub row-filled : {end : ℕ} {new : List ℤ}
-        → Left text p (length (take ((row - 1) * columns + columns - (row - 1) * columns) (drop ((row - 1) * columns) ground))) end
-        → new ≡ take (length (take ((row - 1) * columns + columns - (row - 1) * columns) (drop ((row - 1) * columns) ground))) (valuesOf (wordsOf (drop p text)))
-        → Filling text n columns rows at (row - 1) end (putMid ((row - 1) * columns) ((row - 1) * columns + columns - (row - 1) * columns) ground new)
-    row-filled l is =
-        fill-more g (row - 1) down (length (take ((row - 1) * columns + columns - (row - 1) * columns) (drop ((row - 1) * columns) ground))) row-long l ((row - 1) * columns) refl is
-        ((row - 1) * columns + columns - (row - 1) * columns) (omega arith)
+    -- and where it begins at that row's place, one row more is read
+    pub row-filled : {end : ℕ} {new : List ℤ} → start ≡ south * columns → Left text p (length part) end → new ≡ take (length part) (valuesOf (wordsOf (drop p text)))
+        → Filling text n columns rows at (rows - (i + 1)) end (putMid start (start + columns - start) ground new)
+    row-filled {end} {new} st l is =
+        subst (λ (k : ℕ). Filling text n columns rows at k end (putMid start (start + columns - start) ground new))
+        (let e : south ≡ rows - (i + 1) = omega arith in e)
+        (fill-more g south down (length part) row-long l start st is (start + columns - start) (omega arith))
+
+  pub fill-room : {row p : ℕ} {ground : List ℤ} → Filling text n columns rows at row p ground → (length ground ≡ rows * columns) × (length ground ≤ 16384)
+  fill-room g = (g .long ∙ f .long, omega (arith, g .long, f .long, mul-le-mul (f .high) (f .wide)))
 
   pub fill-all : {row p : ℕ} {ground : List ℤ} → Filling text n columns rows at row p ground → row ≡ 0 → ground ≡ target
   fill-all {row} {p} {ground} g e = sym (at-front ground) ∙ g .filled ∙ at-front target

@@ -9,16 +9,16 @@ use lib.ListN.{length, drop}
 use lib.Seq.{getD-drop, drop-drop}
 use Rattle.rules.specs.Raster.{wordsOf, word, isKey, ncols, nrows, xllcorner, yllcorner, cellsize, nodataValue, isDecimal, digitsFit, numberOf, signed, decimalValue, countAt, decimalAt, hasNoData, headFits, columnsIn, rowsIn, sideIn, noDataIn, valueWords}
 use Rattle.laws.specs.Tests.{to-T, true-of, and-left}
-use Rattle.raster_laws.specs.Fields.{CountedAt, MeasuredAt, LackingAt}
+use Rattle.raster_laws.specs.Fields.{CountedAt, MeasuredAt, NoDataAt}
 
-pub record Headed (text : List ℕ) (fits : Bool) (columns rows : ℕ) (minus : Bool) (side : ℕ) (lacks lackMinus : Bool) (lack end : ℕ) : Type 0 where
+pub record Headed (text : List ℕ) (fits : Bool) (columns rows : ℕ) (minus : Bool) (side : ℕ) (given noDataMinus : Bool) (noData end : ℕ) : Type 0 where
   pub within : end ≤ length text
   pub says : fits ≡ headFits (wordsOf text)
   pub columns-are : fits ≡ true → columns ≡ columnsIn (wordsOf text)
   pub rows-are : fits ≡ true → rows ≡ rowsIn (wordsOf text)
   pub side-is : fits ≡ true → signed minus side ≡ sideIn (wordsOf text)
-  pub lacks-so : fits ≡ true → lacks ≡ hasNoData (wordsOf text)
-  pub lack-is : fits ≡ true → lacks ≡ true → signed lackMinus lack ≡ noDataIn (wordsOf text)
+  pub given-so : fits ≡ true → given ≡ hasNoData (wordsOf text)
+  pub no-data-is : fits ≡ true → given ≡ true → signed noDataMinus noData ≡ noDataIn (wordsOf text)
   pub values : fits ≡ true → wordsOf (drop end text) ≡ valueWords (wordsOf text)
 
 -- ---- One key more: behind the first k words, where all before was right
@@ -60,13 +60,13 @@ decimal-on ws key k = ap₂ (λ (v w : List ℕ). isKey key v && isDecimal w) (f
 -- ---- All of them
 
 module _ {text : List ℕ}
-    {f₀ f₁ f₂ f₃ f₄ f₅ : Bool} {columns rows : ℕ} {m₂ m₃ minus : Bool} {n₂ n₃ side : ℕ} {lacks lackMinus : Bool} {lack : ℕ} {e₀ e₁ e₂ e₃ e₄ end : ℕ}
+    {f₀ f₁ f₂ f₃ f₄ f₅ : Bool} {columns rows : ℕ} {m₂ m₃ minus : Bool} {n₂ n₃ side : ℕ} {given noDataMinus : Bool} {noData : ℕ} {e₀ e₁ e₂ e₃ e₄ end : ℕ}
     (c : CountedAt text true 0 ncols f₀ columns e₀)
     (r : CountedAt text f₀ e₀ nrows f₁ rows e₁)
     (x : MeasuredAt text f₁ e₁ xllcorner f₂ m₂ n₂ e₂)
     (y : MeasuredAt text f₂ e₂ yllcorner f₃ m₃ n₃ e₃)
     (s : MeasuredAt text f₃ e₃ cellsize f₄ minus side e₄)
-    (l : LackingAt text f₄ e₄ f₅ lacks lackMinus lack end) where
+    (l : NoDataAt text f₄ e₄ f₅ given noDataMinus noData end) where
   abbrev ws : List (List ℕ)
   ws = wordsOf text
 
@@ -115,25 +115,25 @@ module _ {text : List ℕ}
   says₄ : f₄ ≡ (countAt ws ncols 0 && countAt ws nrows 2 && decimalAt ws xllcorner 4 && decimalAt ws yllcorner 6 && decimalAt ws cellsize 8)
   says₄ = s .says ∙ says-on ws (wordsOf (drop e₃ text)) f₃ 8 left₃ (λ l. decimalAt l cellsize 0) ∙ ap₂ _&&_ says₃ (decimal-on ws cellsize 8)
 
-  abbrev lack-fits : List (List ℕ) → Bool
-  lack-fits l = not (isKey nodataValue (word l 0)) || isDecimal (word l 1)
+  abbrev no-data-fits : List (List ℕ) → Bool
+  no-data-fits l = not (isKey nodataValue (word l 0)) || isDecimal (word l 1)
 
   says₅ : f₅ ≡ headFits ws
   unfolding headFits hasNoData
   says₅ =
       l .says
-      ∙ says-on ws (wordsOf (drop e₄ text)) f₄ 10 left₄ lack-fits
+      ∙ says-on ws (wordsOf (drop e₄ text)) f₄ 10 left₄ no-data-fits
       ∙ ap₂ _&&_ says₄ (ap₂ (λ (v w : List ℕ). not (isKey nodataValue v) || isDecimal w) (getD-drop 10 ws 0 []) (getD-drop 10 ws 1 []))
 
-  given : f₅ ≡ true → lacks ≡ hasNoData ws
+  given-is : f₅ ≡ true → given ≡ hasNoData ws
   unfolding hasNoData
-  given e = l .asked e ∙ ap (isKey nodataValue) (word-on ws (wordsOf (drop e₄ text)) f₄ 10 left₄ 0 (back₅ e))
+  given-is e = l .asked e ∙ ap (isKey nodataValue) (word-on ws (wordsOf (drop e₄ text)) f₄ 10 left₄ 0 (back₅ e))
 
   both-places : (t : Bool) → drop (10 + cond t 2 0) ws ≡ drop (cond t 12 10) ws
   both-places true = refl
   both-places false = refl
 
-  pub headed : Headed text f₅ columns rows minus side lacks lackMinus lack end
+  pub headed : Headed text f₅ columns rows minus side given noDataMinus noData end
   unfolding columnsIn rowsIn sideIn noDataIn valueWords
   headed = record {
     within = l .within;
@@ -141,10 +141,10 @@ module _ {text : List ℕ}
     columns-are = λ e. c .is (back₁ (back₂ (back₃ (back₄ (back₅ e)))));
     rows-are = λ e. let g = back₂ (back₃ (back₄ (back₅ e))) in r .is g ∙ ap numberOf (word-on ws (wordsOf (drop e₀ text)) f₀ 2 left₀ 1 (back₁ g));
     side-is = λ e. let g = back₅ e in s .is g ∙ ap decimalValue (word-on ws (wordsOf (drop e₃ text)) f₃ 8 left₃ 1 (back₄ g));
-    lacks-so = given;
-    lack-is = λ e t. l .is e t ∙ ap decimalValue (word-on ws (wordsOf (drop e₄ text)) f₄ 10 left₄ 1 (back₅ e));
+    given-so = given-is;
+    no-data-is = λ e t. l .is e t ∙ ap decimalValue (word-on ws (wordsOf (drop e₄ text)) f₄ 10 left₄ 1 (back₅ e));
     values = λ e.
-        rest-on ws (wordsOf (drop e₄ text)) f₄ 10 left₄ (cond lacks 2 0) (back₅ e) (l .rest e)
-        ∙ both-places lacks
-        ∙ ap (λ (t : Bool). drop (cond t 12 10) ws) (given e);
+        rest-on ws (wordsOf (drop e₄ text)) f₄ 10 left₄ (cond given 2 0) (back₅ e) (l .rest e)
+        ∙ both-places given
+        ∙ ap (λ (t : Bool). drop (cond t 12 10) ws) (given-is e);
   }

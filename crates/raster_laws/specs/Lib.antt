@@ -5,6 +5,7 @@ pub mod Keys
 pub mod Fields
 pub mod Heads
 pub mod Looks
+pub mod Counts
 pub mod Done
 pub mod Decisions
 pub mod Filled

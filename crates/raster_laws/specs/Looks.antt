@@ -22,8 +22,8 @@ use Rattle.raster_laws.specs.Words.{Skipped, WordAt, Word, between, no-w
 -- ---- One value
 
 -- in its range, and not the no-data value where one is given
-abbrev pub valueFits : (lacks : Bool) (lack z : ℤ) → Bool
-valueFits lacks lack z = groundFits z && not (lacks && (leZ z lack && leZ lack z))
+abbrev pub valueFits : (given : Bool) (noData z : ℤ) → Bool
+valueFits given noData z = groundFits z && not (given && (leZ z noData && leZ noData z))
 
 -- the values of some words, and one of them; a word without bytes has the value 0
 abbrev pub valuesOf : (ws : List (List ℕ)) → List ℤ
@@ -70,23 +70,23 @@ same-value true (suc a) false (suc b) = ap (λ (t : Bool). eqb (suc a) (suc b) &
 
 -- ---- All values
 
-pub record Looked (ws : List (List ℕ)) (lacks : Bool) (lack : ℤ) (decimals : Bool) (count : ℕ) (fit : Bool) : Type 0 where
+pub record Looked (ws : List (List ℕ)) (given : Bool) (noData : ℤ) (decimals : Bool) (count : ℕ) (fit : Bool) : Type 0 where
   pub says : decimals ≡ all (length ws) (λ k. isDecimal (word ws k))
   pub counted : decimals ≡ true → count ≡ length ws
-  pub fits : decimals ≡ true → fit ≡ all (length ws) (λ k. valueFits lacks lack (decimalValue (word ws k)))
+  pub fits : decimals ≡ true → fit ≡ all (length ws) (λ k. valueFits given noData (decimalValue (word ws k)))
 
 -- a loop over them: the next word begins at p, and `count` were looked at
-pub record Looking (text : List ℕ) (ws : List (List ℕ)) (lacks : Bool) (lack : ℤ) (fit : Bool) (count p : ℕ) : Type 0 where
+pub record Looking (text : List ℕ) (ws : List (List ℕ)) (given : Bool) (noData : ℤ) (fit : Bool) (count p : ℕ) : Type 0 where
   pub within : p ≤ length text
   pub begins : p < length text → partsWords (getD text p 0) ≡ false
   pub few : count ≤ p
   pub rest : wordsOf (drop p text) ≡ drop count ws
   pub decimals : Gathered (length ws) (λ k. isDecimal (word ws k)) true count
-  pub fits : Gathered (length ws) (λ k. valueFits lacks lack (decimalValue (word ws k))) fit count
+  pub fits : Gathered (length ws) (λ k. valueFits given noData (decimalValue (word ws k))) fit count
 
 -- an element that is met behind the first k
 module _ {A : Type 0} (l : List A) (k : ℕ) (x d : A) (xs : List A) (e : drop k l ≡ x ∷ xs) where
-  pub met-inside : k < length l
+  met-inside : k < length l
   met-inside = let n = ap length e in omega (arith, n, length-drop k l)
 
   pub met-is : getD l k d ≡ x
@@ -95,8 +95,8 @@ module _ {A : Type 0} (l : List A) (k : ℕ) (x d : A) (xs : List A) (e : drop k
   pub met-rest : drop (k + 1) l ≡ xs
   met-rest = sym (drop-drop 1 k l) ∙ ap (drop 1) e
 
-module _ {text : List ℕ} {ws : List (List ℕ)} {lacks : Bool} {lack : ℤ} where
-  pub look-none : {at p : ℕ} → ws ≡ wordsOf (drop at text) → Skipped text at p → Looking text ws lacks lack true 0 p
+module _ {text : List ℕ} {ws : List (List ℕ)} {given : Bool} {noData : ℤ} where
+  pub look-none : {at p : ℕ} → ws ≡ wordsOf (drop at text) → Skipped text at p → Looking text ws given noData true 0 p
   look-none e s = record {
     within = s .within;
     begins = s .begins;
@@ -106,7 +106,7 @@ module _ {text : List ℕ} {ws : List (List ℕ)} {lacks : Bool} {lack : ℤ} wh
     fits = gather-none;
   }
 
-  module _ {fit : Bool} {count p : ℕ} (g : Looking text ws lacks lack fit count p) (h : p < length text) where
+  module _ {fit : Bool} {count p : ℕ} (g : Looking text ws given noData fit count p) (h : p < length text) where
     pub look-word : WordAt text p
     look-word = record { inside = h; begins = g .begins h }
 
@@ -120,25 +120,25 @@ module _ {text : List ℕ} {ws : List (List ℕ)} {lacks : Bool} {lack : ℤ} wh
       word-is : word ws count ≡ between text p end
       word-is = met-is ws count (between text p end) [] (wordsOf (drop end text)) met
 
-      pub look-not : isDecimal (between text p end) ≡ false → Looked ws lacks lack false 0 false
+      pub look-not : isDecimal (between text p end) ≡ false → Looked ws given noData false 0 false
       look-not e = record {
         says = sym (all-broken (length ws) (λ k. isDecimal (word ws k)) count inside (subst (λ (t : Bool). T (not t)) (sym (ap isDecimal word-is ∙ e)) tt));
         counted = λ t. absurd (to-T t);
         fits = λ t. absurd (to-T t);
       }
 
-      pub look-more : {r : Bool} {q : ℕ} → isDecimal (between text p end) ≡ true → r ≡ valueFits lacks lack (decimalValue (between text p end)) → Skipped text end q
-          → Looking text ws lacks lack (fit && r) (count + 1) q
+      pub look-more : {r : Bool} {q : ℕ} → isDecimal (between text p end) ≡ true → r ≡ valueFits given noData (decimalValue (between text p end)) → Skipped text end q
+          → Looking text ws given noData (fit && r) (count + 1) q
       look-more {r} {q} d f s = record {
         within = s .within;
         begins = s .begins;
         few = (let few = g .few in let b = w .behind in let n = s .from in omega arith);
         rest = s .words ∙ sym (met-rest ws count (between text p end) [] (wordsOf (drop end text)) met);
         decimals = gather-more (g .decimals) inside (sym (ap isDecimal word-is ∙ d));
-        fits = gather-more (g .fits) inside (f ∙ sym (ap (λ (v : List ℕ). valueFits lacks lack (decimalValue v)) word-is));
+        fits = gather-more (g .fits) inside (f ∙ sym (ap (λ (v : List ℕ). valueFits given noData (decimalValue v)) word-is));
       }
 
-  pub look-all : {fit : Bool} {count p : ℕ} → Looking text ws lacks lack fit count p → length text ≤ p → Looked ws lacks lack true count fit
+  pub look-all : {fit : Bool} {count p : ℕ} → Looking text ws given noData fit count p → length text ≤ p → Looked ws given noData true count fit
   look-all {fit} {count} {p} g h =
       let none : drop count ws ≡ [] = sym (g .rest) ∙ no-words text p h in
       let n = ap length none in

@@ -1,4 +1,4 @@
--- Metres with six places, read back: a decimal, and the micrometres that were written.
+-- Metres with six sixPlaces, read back: a decimal, and the micrometres that were written.
 use Prim.Native.Nat.{ℕ, suc, _+_, _*_, _/_, _%_, _^_, _<_}
 use mathlib.Core.Path.{_≡_, refl, ap}
 use mathlib.Core.Bool.{Bool, true, false, _&&_}
@@ -10,22 +10,19 @@ use lib.ListN.{length, length-append}
 use lib.Dec.{leb}
 use borrow.Author.Tests.{ne-eqb, lt-leb}
 use Rattle.rules.specs.Text.{decimal}
-use Rattle.rules.specs.Raster.{partsWords, isDigit, digitsFront, digitsRest, allDigits, digitsFit, numberBehind, numberOf, isMinus, unsigned, fractionFits, unsignedFits, isDecimal, fraction, sizeOf, signed, decimalValue, nodataValue, lower, isKey, metres, signedMetres}
+use Rattle.rules.specs.Raster.{partsWords, isDigit, digitsFront, digitsRest, allDigits, digitsFit, numberBehind, numberOf, isMinus, unsigned, fractionFits, unsignedFits, isDecimal, fraction, sizeOf, signed, decimalValue, nodataValue, lower, isKey, sixPlaces, metres, signedMetres}
 use Rattle.raster_laws.specs.Digits.{digit-low, digit-high, digits-first}
 use Rattle.raster_laws.specs.Sizes.{unsigned-plain}
 use Rattle.raster_laws.specs.Keys.{lower-other}
 use Rattle.raster_laws.specs.Spelled.{unparted, unparted-append}
 use Rattle.raster_laws.specs.Figures.{digit-of, digits-unparted, front-of, rest-of, decimal-digits, decimal-number, decimal-some, decimal-few}
 
--- ---- The six places behind the point
-
-abbrev places : (size : ℕ) → List ℕ
-places n = (48 + n / 100000 % 10) ∷ (48 + n / 10000 % 10) ∷ (48 + n / 1000 % 10) ∷ (48 + n / 100 % 10) ∷ (48 + n / 10 % 10) ∷ (48 + n % 10) ∷ []
+-- ---- The six sixPlaces behind the point
 
 last-digit : (n : ℕ) → isDigit (48 + n % 10) ≡ true
 last-digit n = digit-of (n % 10) (omega arith)
 
-places-digits : (n : ℕ) → allDigits (places n) ≡ true
+places-digits : (n : ℕ) → allDigits (sixPlaces n) ≡ true
 unfolding allDigits
 places-digits n = rw (last-digit (n / 100000), last-digit (n / 10000), last-digit (n / 1000), last-digit (n / 100), last-digit (n / 10), last-digit n)
 
@@ -33,7 +30,7 @@ places-digits n = rw (last-digit (n / 100000), last-digit (n / 10000), last-digi
 place-more : (n k : ℕ) → n / (k * 10) * 10 + n / k % 10 ≡ n / k
 place-more n k = omega (arith, div-div-eq-div-mul n k 10)
 
-places-number : (n : ℕ) → n / 1000000 * 1000000 + numberOf (places n) ≡ n
+places-number : (n : ℕ) → n / 1000000 * 1000000 + numberOf (sixPlaces n) ≡ n
 unfolding numberOf numberBehind
 places-number n = omega (arith, place-more n 100000, place-more n 10000, place-more n 1000, place-more n 100, place-more n 10)
 
@@ -45,11 +42,11 @@ module _ (n : ℕ) where
 
   metres-front : digitsFront (metres n) ≡ whole
   unfolding metres
-  metres-front = front-of 46 (places n) refl whole (decimal-digits (n / 1000000))
+  metres-front = front-of 46 (sixPlaces n) refl whole (decimal-digits (n / 1000000))
 
-  metres-rest : digitsRest (metres n) ≡ 46 ∷ places n
+  metres-rest : digitsRest (metres n) ≡ 46 ∷ sixPlaces n
   unfolding metres
-  metres-rest = rest-of 46 (places n) refl whole (decimal-digits (n / 1000000))
+  metres-rest = rest-of 46 (sixPlaces n) refl whole (decimal-digits (n / 1000000))
 
   metres-fit : n < 10 ^ 18 → unsignedFits (metres n) ≡ true
   unfolding unsignedFits fractionFits digitsFit
@@ -61,11 +58,11 @@ module _ (n : ℕ) where
 
   pub metres-some : 0 < length (metres n)
   unfolding metres
-  metres-some = let some = decimal-some (n / 1000000) in omega (arith, length-append whole (46 ∷ places n))
+  metres-some = let some = decimal-some (n / 1000000) in omega (arith, length-append whole (46 ∷ sixPlaces n))
 
   pub metres-unparted : unparted (metres n) ≡ true
   unfolding metres unparted partsWords
-  metres-unparted = unparted-append whole (46 ∷ places n) (digits-unparted whole (decimal-digits (n / 1000000))) (digits-unparted (places n) (places-digits n))
+  metres-unparted = unparted-append whole (46 ∷ sixPlaces n) (digits-unparted whole (decimal-digits (n / 1000000))) (digits-unparted (sixPlaces n) (places-digits n))
 
 -- a digit in front: no minus, and not the key of the no-data value, which begins with a letter
 digit-plain : (ds rest : List ℕ) → 0 < length ds → allDigits ds ≡ true → isMinus (ds ++ rest) ≡ false
@@ -84,11 +81,11 @@ digit-no-key (b ∷ bs) rest h e =
 module _ (n : ℕ) where
   metres-plain : isMinus (metres n) ≡ false
   unfolding metres
-  metres-plain = digit-plain (decimal (n / 1000000)) (46 ∷ places n) (decimal-some (n / 1000000)) (decimal-digits (n / 1000000))
+  metres-plain = digit-plain (decimal (n / 1000000)) (46 ∷ sixPlaces n) (decimal-some (n / 1000000)) (decimal-digits (n / 1000000))
 
   metres-no-key : isKey nodataValue (metres n) ≡ false
   unfolding metres
-  metres-no-key = digit-no-key (decimal (n / 1000000)) (46 ∷ places n) (decimal-some (n / 1000000)) (decimal-digits (n / 1000000))
+  metres-no-key = digit-no-key (decimal (n / 1000000)) (46 ∷ sixPlaces n) (decimal-some (n / 1000000)) (decimal-digits (n / 1000000))
 
   pub metres-decimal : n < 10 ^ 18 → isDecimal (metres n) ≡ true
   unfolding isDecimal

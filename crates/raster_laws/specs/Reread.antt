@@ -15,7 +15,8 @@ use Rattle.rules.specs.Raster.{word, digitsFront, digitsRest, unsigned, fractio
 use Rattle.laws.specs.Tests.{to-T, true-of}
 use Rattle.laws.specs.Grids.{all-intro}
 use Rattle.laws.specs.Checks.{together}
-use Rattle.raster_laws.specs.Figures.{within-ends, decimal-number, decimal-count}
+use Rattle.laws.specs.Facts.{within-ends}
+use Rattle.raster_laws.specs.Figures.{decimal-number, decimal-count}
 use Rattle.raster_laws.specs.Metres.{metres-value, metres-decimal, signed-decimal, signed-value, signed-no-key}
 use Rattle.raster_laws.specs.Written.{written}
 

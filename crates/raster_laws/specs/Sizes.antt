@@ -76,11 +76,11 @@ module _ (word : List ℕ) (at : ℕ) (h : at < length word) where
   unfolding fractionFits
   no-point e = ap fractionFits split ∙ ap (λ (t : Bool). t && digitsFit 6 (drop (at + 1) word)) e
 
-  pub behind-point : eqb (getD word at 0) 46 ≡ true → fractionFits (drop at word) ≡ digitsFit 6 (drop (at + 1) word)
+  behind-point : eqb (getD word at 0) 46 ≡ true → fractionFits (drop at word) ≡ digitsFit 6 (drop (at + 1) word)
   unfolding fractionFits
   behind-point e = ap fractionFits split ∙ ap (λ (t : Bool). t && digitsFit 6 (drop (at + 1) word)) e
 
-  pub fraction-is : fraction (drop at word) ≡ numberOf (drop (at + 1) word) * 10 ^ (6 - length (drop (at + 1) word))
+  fraction-is : fraction (drop at word) ≡ numberOf (drop (at + 1) word) * 10 ^ (6 - length (drop (at + 1) word))
   unfolding fraction
   fraction-is = ap fraction split
 

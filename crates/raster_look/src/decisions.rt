@@ -9,7 +9,7 @@ ghost use Rattle.raster_laws.specs.Decisions.{Decided};
 use crate::product;
 use crate::values;
 
-// The number; where it is 0, columns, rows and side, and where the values begin.
+// The number; where it is 0, columns, rows and side, and where the values begin, and otherwise 0 for each.
 pub struct Decision {
     pub number: u32,
     pub columns: u32,
@@ -65,7 +65,7 @@ pub fn decide(text: &[u8], n: usize) -> Decision
     if !head.fits {
         return refused(10);
     }
-    let look = values::look_over(text, head.end, head.lacks, head.lackMinus, head.lack);
+    let look = values::look_over(text, head.end, head.given, head.noDataMinus, head.noData);
     let counts = product::is_product(look.count as u64, head.columns, head.rows);
     let sizes = sizes_fit(head.columns, head.rows, head.minus, head.side);
     let number = number_of(look.decimals & counts, sizes, n == look.count, look.fit);

@@ -23,17 +23,17 @@ fn is_same(minus: bool, size: u64, otherMinus: bool, other: u64) -> bool
 }
 
 // Whether a value lies in its range and is not the no-data value, where one is given.
-fn value_fits(minus: bool, size: u64, lacks: bool, lackMinus: bool, lack: u64) -> bool
-    ensures { λ r. ⌜ r ≡ valueFits lacks (signed lackMinus lack) (signed minus size) ⌝ }
+fn value_fits(minus: bool, size: u64, given: bool, noDataMinus: bool, noData: u64) -> bool
+    ensures { λ r. ⌜ r ≡ valueFits given (signed noDataMinus noData) (signed minus size) ⌝ }
 {
-    let same = is_same(minus, size, lackMinus, lack);
-    (size <= 50000000) & !(lacks & same)
+    let same = is_same(minus, size, noDataMinus, noData);
+    (size <= 50000000) & !(given & same)
 }
 
 // The look over all words from `at` on.
-pub fn look_over(text: &[u8], at: usize, lacks: bool, lackMinus: bool, lack: u64) -> Look
+pub fn look_over(text: &[u8], at: usize, given: bool, noDataMinus: bool, noData: u64) -> Look
     requires { ⌜ at ≤ length (now text) ⌝ }
-    ensures { λ r. ⌜ Looked (wordsOf (drop at (now (text .entry)))) lacks (signed lackMinus lack) (r .decimals) (r .count) (r .fit) ⌝ }
+    ensures { λ r. ⌜ Looked (wordsOf (drop at (now (text .entry)))) given (signed noDataMinus noData) (r .decimals) (r .count) (r .fit) ⌝ }
 {
     let mut fit = true;
     let mut count: usize = 0;
@@ -48,7 +48,7 @@ pub fn look_over(text: &[u8], at: usize, lacks: bool, lackMinus: bool, lack: u64
                 fit: false,
             };
         }
-        fit = fit & value_fits(value.minus, value.size, lacks, lackMinus, lack);
+        fit = fit & value_fits(value.minus, value.size, given, noDataMinus, noData);
         count += 1;
         p = text_words::word_start(text, end);
     }

@@ -1,7 +1,7 @@
 // The values of a raster that passes, read into a list: a raster has the northern row first, and a site the southern one.
 ghost use mathlib.Core.Path.{_≡_};
 ghost use mathlib.Core.List.{map};
-ghost use Prim.Native.Nat.{_≤_};
+ghost use Prim.Native.Nat.{_+_, _*_, _≤_, _<_};
 ghost use lib.ListN.{length, drop, take};
 ghost use Rattle.rules.specs.Raster.{wordsOf, decimalValue, signed, rasterGround};
 ghost use Rattle.raster_laws.specs.Decisions.{Passes};
@@ -36,17 +36,24 @@ fn fill_row(text: &[u8], at: usize, row: &mut [i32]) -> usize
     p
 }
 
+// Where a row begins in a list by rows.
+fn row_start(row: usize, wide: usize, high: usize) -> usize
+    requires { ⌜ (row < high) × (high ≤ 128) × (wide ≤ 128) ⌝ }
+    ensures { λ r. ⌜ (r ≡ row * wide) × (r + wide ≤ high * wide) ⌝ }
+{
+    row * wide
+}
+
 // All values, from `at` on: the northern row is the last of the list.
 pub fn fill(text: &[u8], at: usize, columns: u32, rows: u32, ground: &mut [i32])
     requires { ⌜ Passes (now text) (length (now ground)) columns rows at ⌝ }
     ensures { λ _. ⌜ now (ground .exit) ≡ rasterGround (wordsOf (now (text .entry))) ⌝ }
 {
     let wide = columns as usize;
-    let mut row = rows as usize;
+    let high = rows as usize;
     let mut p = at;
-    while 0 < row {
-        row -= 1;
-        let start = row * wide;
+    for n in 0..high {
+        let start = row_start(high - 1 - n, wide, high);
         let end = start + wide;
         p = fill_row(text, p, &mut ground[start..end]);
     }

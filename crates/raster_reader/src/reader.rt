@@ -8,15 +8,9 @@ pub fn read_raster(text: &[u8], ground: &mut [i32]) -> Raster
     ensures { λ r. ⌜ ReadRasterContract (now (text .entry)) (now (ground .entry)) r (now (ground .exit)) ⌝ }
 {
     let found = raster_look::decide(text, ground.len());
-    if found.number != 0 {
-        return Raster {
-            number: found.number,
-            columns: found.columns,
-            rows: found.rows,
-            side: found.side,
-        };
+    if found.number == 0 {
+        fills::fill(text, found.at, found.columns, found.rows, ground);
     }
-    fills::fill(text, found.at, found.columns, found.rows, ground);
     Raster {
         number: found.number,
         columns: found.columns,

@@ -1,4 +1,5 @@
 pub mod Laws
+pub mod Loops
 pub mod Lengths
 pub mod KeyPieces
 pub mod Rows

@@ -1,7 +1,7 @@
 -- The writer's number and what it leaves, from its checks and from what was laid.
 use Prim.Native.Nat.{ℕ, _+_, _≤_, _<_}
-use mathlib.Core.Path.{_≡_, refl, sym, ap, ap₂, _∙_}
-use mathlib.Core.Bool.{Bool, true, false, cond, not, _&&_, _||_}
+use mathlib.Core.Path.{_≡_, sym, ap, _∙_}
+use mathlib.Core.Bool.{Bool, cond, _&&_}
 use mathlib.Core.List.{List, _++_}
 use native.Mathlib.Nat.{zero-add}
 use lib.IntN.{ℤ, pos, negsuc, natAbs}
@@ -24,32 +24,6 @@ use Rattle.laws.specs.Laid.{laid-front}
 use Rattle.print.specs.Appended.{Appended}
 use Rattle.raster_writer.specs.Lines.{rowTexts, Checked}
 use Rattle.raster_writer.proofs.Rows.{all-rows}
-
--- ---- The first three checks, one after the other
-
-pub not-card : (l v : Bool) {a : Bool} → a ≡ false → 1 ≡ firstOf a l v
-unfolding firstOf
-not-card l v e = sym (ap (λ (t : Bool). firstOf t l v) e)
-
-pub not-lengths : (v : Bool) {a l : Bool} → a ≡ true → l ≡ false → 2 ≡ firstOf a l v
-unfolding firstOf
-not-lengths v e f = sym (ap₂ (λ (s t : Bool). firstOf s t v) e f)
-
-pub by-values : (v : Bool) {a l : Bool} → a ≡ true → l ≡ true → firstOf a l v ≡ cond v 0 3
-unfolding firstOf
-by-values true e f = ap₂ (λ (s t : Bool). firstOf s t true) e f
-by-values false e f = ap₂ (λ (s t : Bool). firstOf s t false) e f
-
--- two tests, as the code puts them together
-pub one-fails : (a b : Bool) → (not a || not b) ≡ true → (a && b) ≡ false
-one-fails true true e = sym e
-one-fails true false e = refl
-one-fails false b e = refl
-
-pub both-hold : (a b : Bool) → (not a || not b) ≡ false → (a && b) ≡ true
-both-hold true true e = refl
-both-hold true false e = sym e
-both-hold false b e = sym e
 
 -- every ground level in its range
 pub grounds-are : (c : Card) (g : List ℤ) → all (cells c) (λ k. between (negsuc 49999999) (pos 50000000) (getD g (0 + k) (pos 0))) ≡ groundsFit c (readGround c g)

@@ -20,7 +20,7 @@ use Rattle.laws.specs.Exact.{sfits}
 use Rattle.laws.specs.Facts.{card-facts}
 use Rattle.raster_laws.specs.Turned.{turned-at}
 use Rattle.raster_writer.specs.Lines.{behindCell, cellText, rowText, rowTexts, Cell}
-use Rattle.raster_writer.proofs.Laws.{piece-within}
+use Rattle.raster_writer.proofs.Loops.{piece-within}
 use Rattle.raster_writer.proofs.Lengths.{signed-most}
 
 module _ (c : Card) (g : List ℤ) where
@@ -63,7 +63,7 @@ module _ (c : Card) (g : List ℤ) where
   length-cell i j = length-append (signedMetres (readGround c g i j)) (behindCell (c .columns) i ∷ [])
 
   module _ {i j : ℕ} (k : Cell c g i j) where
-    pub place-inside : j * c .columns + i < cells c
+    place-inside : j * c .columns + i < cells c
     place-inside = digits-lt (k .row) (k .column)
 
     pub cell-small : natAbs (readGround c g i j) ≤ 50000000

@@ -1,5 +1,5 @@
 -- The text of a raster's values row by row, as the writer lays it: what its functions promise each other, and what they may rest on.
-use Prim.Native.Nat.{ℕ, zero, suc, _+_, _-_, _/_, _%_, _≤_, _<_}
+use Prim.Native.Nat.{ℕ, zero, suc, _+_, _-_, _≤_, _<_}
 use mathlib.Core.Path.{_≡_}
 use mathlib.Core.Bool.{true, cond}
 use mathlib.Core.List.{List, [], _∷_, _++_}
@@ -9,10 +9,6 @@ use lib.Dec.{eqb}
 use Rattle.rules.specs.declared.Card.{Card}
 use Rattle.rules.specs.Site.{cells, readGround, cardFits}
 use Rattle.rules.specs.Raster.{signedMetres}
-
--- a point and six digits of a size
-abbrev pub places : ℕ → List ℕ
-places n = 46 ∷ (48 + n / 100000 % 10) ∷ (48 + n / 10000 % 10) ∷ (48 + n / 1000 % 10) ∷ (48 + n / 100 % 10) ∷ (48 + n / 10 % 10) ∷ (48 + n % 10) ∷ []
 
 -- a minus in front of a value below 0
 abbrev pub minusText : ℤ → List ℕ

@@ -1,4 +1,4 @@
-// The lines of the keys: at most 80 bytes.
+// The lines of the keys, at most 63 bytes, laid into room for 80: a number is lent room for any.
 ghost use mathlib.Core.Path.{_≡_};
 ghost use mathlib.Core.Bool.{true};
 ghost use mathlib.Core.List.{[], _++_};
@@ -29,8 +29,8 @@ pub fn key_lines(card: Card, out: &mut [u8]) -> usize
     ensures end { λ r. ⌜ r ≤ 80 ⌝ }
 {
     let columns = print::append(b"ncols ", out, 0);
-    let rows = count_line(card.columns, out, columns);
-    let rows = print::append(b"nrows ", out, rows);
+    let second = count_line(card.columns, out, columns);
+    let rows = print::append(b"nrows ", out, second);
     let corner = count_line(card.rows, out, rows);
     let side = print::append(b"xllcorner 0\nyllcorner 0\ncellsize ", out, corner);
     let end = metres::put_metres(card.dx, out, side);

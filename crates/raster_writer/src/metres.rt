@@ -1,13 +1,14 @@
 // Micrometres as metres with six places, laid into a list from `at` on, and how long that is.
 ghost use mathlib.Core.Path.{_≡_};
+ghost use mathlib.Core.List.{_∷_};
 ghost use Prim.Native.Nat.{_+_, _≤_, _<_};
 ghost use lib.IntN.{natAbs};
 ghost use lib.ListN.{length};
 ghost use Rattle.rules.specs.Text.{decimal};
-ghost use Rattle.rules.specs.Raster.{metres as Raster·metres, signedMetres};
+ghost use Rattle.rules.specs.Raster.{sixPlaces, metres as Raster·metres, signedMetres};
 ghost use Rattle.laws.specs.Laid.{laid};
 ghost use Rattle.print.specs.Appended.{Appended};
-ghost use Rattle.raster_writer.specs.Lines.{places, minusText};
+ghost use Rattle.raster_writer.specs.Lines.{minusText};
 
 // How long a size is.
 fn metres_size(n: u32) -> usize
@@ -49,7 +50,7 @@ fn put_whole(n: u32, out: &mut [u8], at: usize) -> usize
 // A point and six digits.
 fn put_places(n: u32, out: &mut [u8], at: usize)
     requires { ⌜ at + 7 ≤ length (now out) ⌝ }
-    ensures { λ _. ⌜ now (out .exit) ≡ laid (now (out .entry)) at (places n) ⌝ }
+    ensures { λ _. ⌜ now (out .exit) ≡ laid (now (out .entry)) at (46 ∷ sixPlaces n) ⌝ }
 {
     out[at] = b'.';
     out[at + 1] = 48 + (n / 100000 % 10) as u8;
@@ -87,6 +88,6 @@ pub fn put_value(z: i32, out: &mut [u8], at: usize) -> usize
     requires { ⌜ (natAbs z ≤ 50000000) × (at + length (signedMetres z) ≤ length (now out)) ⌝ }
     ensures { λ r. ⌜ Appended (signedMetres z) at r (now (out .entry)) (now (out .exit)) ⌝ }
 {
-    let size = put_sign(z, out, at);
-    put_metres(print::size(z), out, size)
+    let start = put_sign(z, out, at);
+    put_metres(print::size(z), out, start)
 }

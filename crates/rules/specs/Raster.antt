@@ -49,11 +49,12 @@ unfoldable pub digitsRest : List ℕ → List ℕ
 digitsRest [] = []
 digitsRest (b ∷ bs) = cond (isDigit b) (digitsRest bs) (b ∷ bs)
 
--- digits and nothing else, one to `most` of them
+-- digits and nothing else
 unfoldable pub allDigits : List ℕ → Bool
 allDigits [] = true
 allDigits (b ∷ bs) = isDigit b && allDigits bs
 
+-- one to `most` of them
 unfoldable pub digitsFit : (most : ℕ) → List ℕ → Bool
 digitsFit most ds = within 1 most (length ds) && allDigits ds
 
@@ -208,11 +209,13 @@ rasterNumber text n = rasterNumberOf (wordsOf text) n
 
 -- ---- The text of a raster: six places in cellsize and values
 
+-- the six digits behind the point
+abbrev pub sixPlaces : (size : ℕ) → List ℕ
+sixPlaces n = (48 + n / 100000 % 10) ∷ (48 + n / 10000 % 10) ∷ (48 + n / 1000 % 10) ∷ (48 + n / 100 % 10) ∷ (48 + n / 10 % 10) ∷ (48 + n % 10) ∷ []
+
 -- so many micrometres in metres
 unfoldable pub metres : (size : ℕ) → List ℕ
-metres n =
-    decimal (n / 1000000)
-    ++ (46 ∷ (48 + n / 100000 % 10) ∷ (48 + n / 10000 % 10) ∷ (48 + n / 1000 % 10) ∷ (48 + n / 100 % 10) ∷ (48 + n / 10 % 10) ∷ (48 + n % 10) ∷ [])
+metres n = decimal (n / 1000000) ++ (46 ∷ sixPlaces n)
 
 unfoldable pub signedMetres : ℤ → List ℕ
 signedMetres (pos n) = metres n

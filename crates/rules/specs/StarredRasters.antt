@@ -245,7 +245,7 @@ pub record StarredRasters : Type 0 where
   -- 2 before 3: a lent list of another length
   pub short-list : ReadRefused (single "51\n") 0 2
   pub long-list : ReadRefused (single "NODATA_value 1\n1\n") 2 2
-  -- 3: a height out of range, here the last of two; the no-data value, as a number in whatever words
+  -- 3: a height out of range, the last of two or the first; the no-data value, as a number in whatever words
   pub too-high : ReadRefused (raster "2" "1" "1" "0 50.000001\n") 2 3
   pub too-low : ReadRefused (raster "2" "1" "1" "-50.000001 0\n") 2 3
   pub no-data : ReadRefused (single "NODATA_value -9999\n-9999.0\n") 1 3

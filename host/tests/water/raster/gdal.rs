@@ -3,7 +3,8 @@
 //!
 //! GDAL takes heights for floats of 32 bits unless it is told otherwise (`AAIGRID_DATATYPE`), and loses micrometres. It writes as many places
 //! as a float has, and exponents, which no raster here has, unless it is told how many (`DECIMAL_PRECISION`). And it always writes the corner
-//! and cellsize with twelve places, of which six are too many (10): `cut` takes noughts off their ends, and nothing else.
+//! and cellsize with twelve places, of which six are too many (10): `cut` takes them off the corner, which is dropped, and off cellsize
+//! where they are noughts, and nothing else.
 
 use super::{read, Survey};
 use crate::library;
@@ -96,13 +97,13 @@ fn gdal_reads_what_is_written() {
     }
 }
 
-/// Noughts behind the sixth place of the corner and of cellsize, cut off.
+/// What stands behind the sixth place of the corner, and noughts there of cellsize, cut off.
 fn cut(text: &str) -> String {
-    let shorter = |line: &str| match line.split_once('.') {
-        Some((whole, part)) if part.len() > 6 && part[6..].bytes().all(|byte| byte == b'0') => format!("{whole}.{}", &part[..6]),
+    let shorter = |line: &str, any: bool| match line.split_once('.') {
+        Some((whole, part)) if part.len() > 6 && (any || part[6..].bytes().all(|byte| byte == b'0')) => format!("{whole}.{}", &part[..6]),
         _ => line.to_string(),
     };
-    let lines = text.lines().enumerate().map(|(k, line)| if k < 5 { shorter(line) } else { line.to_string() });
+    let lines = text.lines().enumerate().map(|(k, line)| if k < 5 { shorter(line, k < 4) } else { line.to_string() });
     lines.map(|line| line + "\n").collect()
 }
 
@@ -129,6 +130,11 @@ fn we_read_what_gdal_writes() {
             let theirs = by_gdal(&folder, &text, options);
             assert_eq!(read(theirs.as_bytes(), right.1.len()), right, "{theirs}");
         }
+        // a corner that is no whole number of micrometres
+        let odd = String::from_utf8_lossy(&text).replace("xllcorner 0\n", "xllcorner 431250.1234567\n");
+        let theirs = by_gdal(&folder, odd.as_bytes(), &options[..2]);
+        assert!(theirs.contains("431250.123456"), "{theirs}");
+        assert_eq!(read(theirs.as_bytes(), right.1.len()), right, "{theirs}");
         // somewhere else: GDAL works the side out from the corners, by doubles, and these sides stay whole
         if [250_000, 1_000_000, 20_000_000].contains(&card.dx) {
             let (west, north, side) = (431_000.5, 5_812_040.25, f64::from(card.dx) / 1e6);

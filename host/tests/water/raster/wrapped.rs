@@ -65,7 +65,7 @@ fn texts_as_the_model() {
             hurt_text(rng, &mut text);
         }
         let made = Site::read_raster(&text, 100, 7);
-        // of every length that could be right the model's best answer
+        // the model, lent as many words as the wrapper lends
         let mut ground = vec![0; Raster::ground_length(&text)];
         let expected = model::read_raster(&text, &mut ground);
         assert_ne!(expected.number, 2, "a list of the right length was lent: {}", String::from_utf8_lossy(&text));

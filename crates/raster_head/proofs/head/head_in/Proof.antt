@@ -35,11 +35,11 @@ slice-aggregate-measure-at-3 c = search needs
 measure-at-requires-3 : tie.Need-measure-at-requires-3
 measure-at-requires-3 c κs = search needs
 
-lack-at-requires : tie.Need-lack-at-requires
-lack-at-requires c κs = search needs
+no-data-at-requires : tie.Need-no-data-at-requires
+no-data-at-requires c κs = search needs
 
 returns : tie.Need-returns
-returns c = headed (c .before .before .before .before .before .before .before .before .before .count-at .ensures) (c .before .before .before .before .before .before .before .count-at2 .ensures) (c .before .before .before .before .before .measure-at .ensures) (c .before .before .before .measure-at2 .ensures) (c .before .measure-at3 .ensures) (c .lack-at .ensures)
+returns c = headed (c .before .before .before .before .before .before .before .before .before .count-at .ensures) (c .before .before .before .before .before .before .before .count-at2 .ensures) (c .before .before .before .before .before .measure-at .ensures) (c .before .before .before .measure-at2 .ensures) (c .before .measure-at3 .ensures) (c .no-data-at .ensures)
 
 pub head-in-spec : {M : Type 1} → statement M
 head-in-spec =
@@ -55,5 +55,5 @@ head-in-spec =
     measure-at-requires-2
     slice-aggregate-measure-at-3
     measure-at-requires-3
-    lack-at-requires
+    no-data-at-requires
     returns)

@@ -1,5 +1,5 @@
 -- `is_product`: by the quotient and what it leaves, or of no columns.
-use Rattle.raster_laws.specs.Decisions.{product-none, product-by-quotient}
+use Rattle.raster_laws.specs.Counts.{product-none, product-by-quotient}
 use borrow.Author.Needs.{needs}
 use borrow.Author.Needs.{needs}
 use Rattle.raster_look.proofs.product.is_product.Statement.{statement}

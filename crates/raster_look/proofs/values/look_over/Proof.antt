@@ -12,10 +12,10 @@ use Rattle.raster_look.proofs.values.look_over.Statement.{statement}
 use Rattle.raster_look.proofs.values.look_over.Tie as tie
 
 abbrev Inv-loop : tie.InvT-loop
-Inv-loop text at lacks lackMinus lack fit₀ count₀ p₀ fit count p = Looking text (wordsOf (drop at text)) lacks (signed lackMinus lack) fit count p
+Inv-loop text at given noDataMinus noData fit₀ count₀ p₀ fit count p = Looking text (wordsOf (drop at text)) given (signed noDataMinus noData) fit count p
 
 abbrev μ-loop : tie.MeasureT-loop
-μ-loop text at lacks lackMinus lack fit₀ count₀ p₀ fit count p = length text - p
+μ-loop text at given noDataMinus noData fit₀ count₀ p₀ fit count p = length text - p
 
 word-start-requires : tie.Need-word-start-requires Inv-loop μ-loop
 word-start-requires c κs = search needs
@@ -54,7 +54,7 @@ loop-less : tie.Need-loop-less Inv-loop μ-loop
 loop-less c = let b = c .before .before .before .before .before .before .word-end .ensures .behind in let f = c .word-start2 .ensures .from in let w = c .word-start2 .ensures .within in omega (arith, c .before .before .before .before .before .before .before .loop-test .taken)
 
 loop-again : tie.Need-loop-again Inv-loop μ-loop
-loop-again c = let d = c .before .before .before .before .decimal-in in let w = c .before .before .before .before .before .before .word-end .ensures in let yes = not-false _ (c .before .before .if1 .left) in look-more (c .before .before .before .before .before .before .before .before .loop .inv) (c .before .before .before .before .before .before .before .loop-test .taken) w (sym (d .ensures .0) ∙ yes) (c .before .value-fits .ensures ∙ ap (valueFits (c .before .before .before .before .before .before .before .before .before .before .before .args .lacks) (signed (c .before .before .before .before .before .before .before .before .before .before .before .args .lackMinus) (c .before .before .before .before .before .before .before .before .before .before .before .args .lack))) (value-of _ (d .ensures .1 .0) (d .ensures .1 .1) yes)) (c .word-start2 .ensures)
+loop-again c = let d = c .before .before .before .before .decimal-in in let w = c .before .before .before .before .before .before .word-end .ensures in let yes = not-false _ (c .before .before .if1 .left) in look-more (c .before .before .before .before .before .before .before .before .loop .inv) (c .before .before .before .before .before .before .before .loop-test .taken) w (sym (d .ensures .0) ∙ yes) (c .before .value-fits .ensures ∙ ap (valueFits (c .before .before .before .before .before .before .before .before .before .before .before .args .given) (signed (c .before .before .before .before .before .before .before .before .before .before .before .args .noDataMinus) (c .before .before .before .before .before .before .before .before .before .before .before .args .noData))) (value-of _ (d .ensures .1 .0) (d .ensures .1 .1) yes)) (c .word-start2 .ensures)
 
 returns-2 : tie.Need-returns-2 Inv-loop μ-loop
 returns-2 c = look-all (c .before .loop .inv) (c .loop-test .left)

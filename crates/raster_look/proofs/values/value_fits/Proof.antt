@@ -13,7 +13,7 @@ is-same-requires : tie.Need-is-same-requires
 is-same-requires c κs = search needs
 
 returns : tie.Need-returns
-returns c = ap₂ (λ (n : ℕ) (t : Bool). leb n 50000000 && not (c .before .args .lacks && t)) (sym (size-signed (c .before .args .minus) (c .before .args .size))) (c .is-same .ensures)
+returns c = ap₂ (λ (n : ℕ) (t : Bool). leb n 50000000 && not (c .before .args .given && t)) (sym (size-signed (c .before .args .minus) (c .before .args .size))) (c .is-same .ensures)
 
 pub value-fits-spec : {M : Type 1} → statement M
 value-fits-spec = tie.close (tie.spec is-same-requires returns)

@@ -2,9 +2,8 @@
 use native.Mathlib.Omega.{arith}
 use Rattle.laws.specs.Facts.{card-facts}
 use Rattle.print.proofs.Laws.{appended-same}
-use Rattle.raster_writer.proofs.Laws.{Grown, grow, grown-long}
 use Rattle.raster_writer.proofs.Lengths.{metres-most}
-use Rattle.raster_writer.proofs.KeyPieces.{columnsKey, pieces}
+use Rattle.raster_writer.proofs.KeyPieces.{columnsKey, pieces, Grown, grow, grown-long}
 use borrow.Author.Needs.{needs}
 use borrow.Author.Needs.{needs}
 use Rattle.raster_writer.proofs.heads.key_lines.Statement.{statement}

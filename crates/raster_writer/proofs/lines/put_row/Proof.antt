@@ -2,7 +2,7 @@
 use Prim.Native.Nat.{_-_}
 use native.Mathlib.Omega.{arith}
 use Rattle.raster_writer.specs.Lines.{cellText, rowText}
-use Rattle.raster_writer.proofs.Laws.{Laying, lay-none, lay-room, lay-more, lay-all, whole-length}
+use Rattle.raster_writer.proofs.Loops.{Laying, lay-none, lay-room, lay-more, lay-all, whole-length}
 use Rattle.raster_writer.proofs.Rows.{row-none, row-more, row-within}
 use borrow.Author.Needs.{needs}
 use Rattle.raster_writer.proofs.lines.put_row.Statement.{statement}

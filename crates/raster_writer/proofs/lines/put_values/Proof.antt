@@ -2,7 +2,7 @@
 use Prim.Native.Nat.{_-_}
 use native.Mathlib.Omega.{arith}
 use Rattle.raster_writer.specs.Lines.{rowText, rowTexts}
-use Rattle.raster_writer.proofs.Laws.{Laying, lay-none, lay-room, lay-more, lay-all, whole-length}
+use Rattle.raster_writer.proofs.Loops.{Laying, lay-none, lay-room, lay-more, lay-all, whole-length}
 use Rattle.raster_writer.proofs.Rows.{rows-none, rows-more, rows-within}
 use borrow.Author.Needs.{needs}
 use Rattle.raster_writer.proofs.lines.put_values.Statement.{statement}

@@ -7,11 +7,12 @@ use lib.IntN.{pos, negsuc}
 use lib.ListN.{length, getD}
 use lib.Dec.{eqb}
 use borrow.Author.Tests.{not-true, not-false, eqb-true}
-use Rattle.laws.specs.Tests.{to-T, true-of, and-left}
+use Rattle.laws.specs.Tests.{to-T, true-of, and-left, one-fails, both-hold}
 use Rattle.laws.specs.Between.{between}
 use Rattle.rules.specs.Grid.{all}
 use Rattle.rules.specs.Site.{groundsFit, readGround}
-use Rattle.raster_writer.proofs.Numbers.{not-card, not-lengths, by-values, one-fails, both-hold, grounds-are}
+use Rattle.laws.specs.Checks.{not-card, not-lengths, by-values}
+use Rattle.raster_writer.proofs.Numbers.{grounds-are}
 use borrow.Author.Needs.{needs}
 use borrow.Author.Needs.{needs}
 use Rattle.raster_writer.proofs.writer.check.Statement.{statement}
