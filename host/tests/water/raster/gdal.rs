@@ -100,7 +100,9 @@ fn gdal_reads_what_is_written() {
 /// What stands behind the sixth place of the corner, and noughts there of cellsize, cut off.
 fn cut(text: &str) -> String {
     let shorter = |line: &str, any: bool| match line.split_once('.') {
-        Some((whole, part)) if part.len() > 6 && (any || part[6..].bytes().all(|byte| byte == b'0')) => format!("{whole}.{}", &part[..6]),
+        Some((whole, part)) if part.len() > 6 && (any || part[6..].bytes().all(|byte| byte == b'0')) => {
+            format!("{whole}.{}", &part[..6])
+        }
         _ => line.to_string(),
     };
     let lines = text.lines().enumerate().map(|(k, line)| if k < 5 { shorter(line, k < 4) } else { line.to_string() });
