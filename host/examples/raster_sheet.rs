@@ -1,8 +1,8 @@
 //! Makes a site sheet of a surveyor's raster, its ground under water: time step in ms, steps wanted, and either so many metres of rain on every
 //! cell or a level in metres up to which the ground is flooded. Run from the repository's root:
 //!
-//!     cargo run --release --manifest-path host/Cargo.toml --example raster_sheet -- examples/yard.asc 40 300 rain 0.12 > /tmp/yard.sheet
-//!     ./play /tmp/yard.sheet
+//!     cargo run --release --manifest-path host/Cargo.toml --example raster_sheet -- examples/yard.asc 40 300 rain 0.12 > yard.sheet
+//!     ./play yard.sheet
 //!
 //! A raster that is refused is told by its number.
 

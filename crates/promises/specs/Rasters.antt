@@ -1,4 +1,4 @@
--- Of document 02's [3], the surveyor's raster: what we write we read back, each value is exact, and a ground that was read is one that every call takes.
+-- Of document 02's [3], the surveyor's raster: what we write we read back, each value is exact, and what was read is in its ranges.
 use Prim.Native.Nat.{ℕ, _+_, _*_, _-_, _^_, _≤_, _<_}
 use mathlib.Core.Path.{_≡_, refl, sym, ap, ap₂, _∙_, subst}
 use mathlib.Core.Bool.{Bool, true, false, cond, _&&_}
@@ -20,13 +20,13 @@ use Rattle.rules.specs.Raster.{wordsOf, word, isDigit, digitsFront, digitsRest,
 use Rattle.rules.specs.Calls.{readRasterAnswer, readRasterGround, writeRasterAnswer, writeRasterText}
 use Rattle.rules.specs.Contracts.{ReadRasterContract, WriteRasterContract}
 use Rattle.laws.specs.Tests.{and-left, and-right, to-T, true-of}
+use Rattle.laws.specs.Facts.{within-ends}
 use Rattle.laws.specs.Grids.{allAt-intro}
 use Rattle.laws.specs.Checks.{apart}
 use Rattle.laws.specs.Numbers.{leZ-refl}
 use Rattle.laws.specs.Outcomes.{both-passed, if-done}
 use Rattle.raster_laws.specs.Digits.{front-all, rest-is}
 use Rattle.raster_laws.specs.Sizes.{is-count, scaled-up, unsigned-plain}
-use Rattle.laws.specs.Facts.{within-ends}
 use Rattle.raster_laws.specs.Figures.{front-of, rest-of, number-append}
 use Rattle.raster_laws.specs.Turned.{length-turned, turned-at, turned-keeps}
 use Rattle.raster_laws.specs.Looks.{value-read}

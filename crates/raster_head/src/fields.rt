@@ -26,7 +26,7 @@ pub struct Measured {
     pub end: usize,
 }
 
-// Whether that is right which stands there: the key for no data with a decimal, or another word; whether the key is given, the decimal's sign and size, and where the values begin.
+// The key for no data with a decimal, or another word, which is the first value: whether one of them stands there, whether it is the key, the decimal's sign and size, and where the values begin.
 pub struct NoData {
     pub fits: bool,
     pub given: bool,
@@ -35,6 +35,7 @@ pub struct NoData {
     pub end: usize,
 }
 
+// A key, and the word behind it.
 fn name_at(text: &[u8], ok: bool, at: usize, key: &[u8]) -> Named
     requires { ⌜ at ≤ length (now text) ⌝ }
     ensures { λ r. ⌜ NamedAt (now (text .entry)) ok at (now (key .entry)) (r .fits) (r .start) (r .end) ⌝ }
