@@ -1,5 +1,7 @@
 // One step of a sound site, with a tide to work in. The still rows are marked first, and passed over by all that follows but the textbook engine's
 // velocities.
+#![tactic(auto)]
+
 ghost use Rattle.rules.specs.Site.{read_ground, read_state};
 ghost use Rattle.std.specs.Prelude.{◌≡◌};
 ghost use Rattle.rules.specs.Step.{limit_kept, new_velocities_fit, next_state_by};

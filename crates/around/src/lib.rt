@@ -1,4 +1,6 @@
 // What stands around an inner face, gathered from ground, state and tide: its levels, four numbers, or all eighteen.
+#![tactic(auto)]
+
 pub mod faces;
 pub mod levels;
 mod words;

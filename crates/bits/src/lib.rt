@@ -1,4 +1,6 @@
 // A word's value and its bits, two's complement.
+#![tactic(auto)]
+
 ghost use Rattle.std.specs.Prelude.{◌≡◌, pos, ◌-ℤ◌};
 ghost use Rattle.rules.specs.Sheet.{bits_of, value_of};
 ghost use Rattle.bits.specs.Lowered.{Lowered};

@@ -1,4 +1,6 @@
 // The site card: whether its six numbers lie in their ranges, and how many cells and how many words of state a card asks for.
+#![tactic(auto)]
+
 ghost use Rattle.std.specs.Prelude.{◌≡◌, true, ◌&&◌, ◌≤◌, eqb};
 ghost use Rattle.rules.specs.Site.{within, card_fits, cells as Site·cells, state_length};
 

@@ -1,4 +1,6 @@
 // One chamber: its cell, and whether it is listed.
+#![tactic(auto)]
+
 ghost use Rattle.std.specs.Prelude.{◌≡◌, ◌<◌, ◌≤◌, pos};
 ghost use Rattle.rules.specs.Search.{cell_along, listed as Search·listed};
 ghost use Rattle.chamber.specs.OnSite.{OnSite, Wet, cell_place, DeepEnough};

@@ -4,14 +4,14 @@ ghost use Rattle.rules.specs.Raster.{is_digit, digits_fit, number_of};
 ghost use Rattle.raster_laws.specs.Digits.{Room, DigitsFrom};
 
 // A number, and where the digits end that made it.
-#[derive(Drop)]
+#[derive(Clone, Copy)]
 pub struct Digits {
     pub number: u64,
     pub end: usize,
 }
 
 // Whether a word is a count, and the count; 0 where it is none.
-#[derive(Drop)]
+#[derive(Clone, Copy)]
 pub struct Count {
     pub fits: bool,
     pub number: u64,

@@ -1,4 +1,6 @@
 // A word as a number: digits alone, and a decimal, whose size in micrometres is exact. Nothing is rounded: a word with a seventh place is no decimal.
+#![tactic(auto)]
+
 mod counts;
 mod signs;
 mod sizes;

@@ -5,7 +5,7 @@ ghost use Rattle.rules.specs.Raster.{is_minus, unsigned, size_of, is_decimal};
 use crate::sizes;
 
 // Whether a word is a decimal, whether a minus stands in front of it, and its size in micrometres; 0 where it is none.
-#[derive(Drop)]
+#[derive(Clone, Copy)]
 pub struct Decimal {
     pub fits: bool,
     pub minus: bool,

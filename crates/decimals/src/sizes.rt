@@ -6,7 +6,7 @@ ghost use Rattle.raster_laws.specs.Digits.{Behind};
 use crate::counts;
 
 // Whether a word is such a decimal, and its size; 0 where it is none.
-#[derive(Drop)]
+#[derive(Clone, Copy)]
 pub struct Sized {
     pub fits: bool,
     pub size: u64,

@@ -1,4 +1,6 @@
 // One step of a sound site, in lists that are lent to it: all of the next state is handed over, or nothing.
+#![tactic(auto)]
+
 ghost use Rattle.rules.specs.Run.{site_step_by};
 ghost use Rattle.rules.specs.Pumps.{pumped_step_by};
 ghost use Rattle.laws.specs.Engines.{engine};

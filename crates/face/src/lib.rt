@@ -1,5 +1,7 @@
 // The arithmetic of one cell and of what crosses one face, for the first half of a step: what each function returns is a definition of
 // `rules`. One division, for a transfer, and none where the upwind cell is empty.
+#![tactic(auto)]
+
 ghost use Rattle.std.specs.Prelude.{◌≡◌, cond, ◌+◌, ◌*◌, pos, nat_abs, ◌+ℤ◌, ◌-ℤ◌, leb};
 ghost use Rattle.std.specs.Int.Signed.{lt_z};
 ghost use Rattle.rules.specs.Step as step;

@@ -1,1 +1,3 @@
 // Mathematics that the kit lacks: no code, only the laws in specs/.
+#![tactic(auto)]
+

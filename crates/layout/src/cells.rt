@@ -5,7 +5,7 @@ ghost use Rattle.layout.specs.Cells.{CellPlace, cell_at};
 use super::words;
 use rules::Card;
 
-#[derive(Drop)]
+#[derive(Clone, Copy)]
 pub struct Cell {
     pub height: i32,
     pub west: i32,

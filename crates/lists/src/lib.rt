@@ -1,4 +1,6 @@
 // Lists of words: new ones, one word by column and row, whole lists copied, cleared and renewed, and the greatest word.
+#![tactic(auto)]
+
 ghost use Rattle.std.specs.Prelude.{◌≡◌, ◌+◌, ◌*◌, ◌≤◌, ◌<◌, pos, length, get_or, set, replicate};
 ghost use Rattle.rules.specs.Grid.{max_z, greatest as Grid·greatest};
 ghost use Rattle.lists.specs.Renewed.{renewed};

@@ -1,4 +1,6 @@
 // The momentum that the flows carry into the cell of one face: what each function returns is a definition of `rules`.
+#![tactic(auto)]
+
 ghost use Rattle.std.specs.Prelude.{◌≡◌};
 ghost use Rattle.rules.specs.Step as step;
 ghost use Rattle.momentum.specs.Fits.{FaceFits, Flow};

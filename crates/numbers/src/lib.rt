@@ -1,4 +1,6 @@
 // Numbers as bytes, the most significant byte first.
+#![tactic(auto)]
+
 ghost use Rattle.std.specs.Prelude.{◌≡◌, ◌+◌, ◌≤◌, length, drop};
 ghost use Rattle.rules.specs.Sheet.{number_in, bytes_of};
 ghost use Rattle.laws.specs.Laid.{laid};

@@ -1,4 +1,6 @@
 // The numbers of the calls on a pin table, in document 02's order.
+#![tactic(auto)]
+
 ghost use Rattle.std.specs.Prelude.{◌≡◌, true, length};
 ghost use Rattle.rules.specs.Site.{first_refusal};
 ghost use Rattle.pins_rules.specs.Calls.{unless as Calls·unless, crew_number, chamber_number, add_number, remove_number};

@@ -1,4 +1,6 @@
 // The pin table: what its words are, whether it passes, and how one place changes.
+#![tactic(auto)]
+
 ghost use Rattle.std.specs.Prelude.{◌≡◌, ◌≤◌, ◌<◌, length, replicate};
 ghost use Rattle.pins_rules.specs.Table.{pin as Table·pin, crew_of, chamber_of, is_crew, is_chamber, word_fits, stands as Table·stands, words_fit, each_once, held as Table·held, table_fits, first_changed};
 ghost use Rattle.pins_laws.specs.FirstPlace.{FirstPlace};

@@ -1,4 +1,6 @@
 // What the sheet player prints, as a function from the input's bytes to the output's bytes.
+#![tactic(auto)]
+
 ghost use Rattle.std.specs.Prelude.{◌≡◌, [], ◌≤◌, length};
 ghost use Rattle.rules.specs.Calls.{run_outcome};
 ghost use Rattle.rules.specs.Play.{played_text, played, printed};

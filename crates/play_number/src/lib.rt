@@ -1,4 +1,6 @@
 // The player's own refusals: input that is too long, what the reader says of it, and a site that is too large to print.
+#![tactic(auto)]
+
 ghost use Rattle.std.specs.Prelude.{◌≡◌};
 ghost use Rattle.rules.specs.Play.{play_number};
 

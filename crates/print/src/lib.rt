@@ -1,4 +1,6 @@
 // Printing into a lent list: each function lays its text from `at` on and answers where it ends.
+#![tactic(auto)]
+
 ghost use Rattle.std.specs.Prelude.{◌≡◌, ◌+◌, ◌≤◌, ◌<◌, nat_abs, length};
 ghost use Rattle.rules.specs.Text.{decimal, depth_text};
 ghost use Rattle.rules.specs.Pumps.{progress_of};

@@ -1,4 +1,6 @@
 // One pumped step of a sound site, on the state itself: the pumps act, and the step is made from what they leave. A refused step is undone.
+#![tactic(auto)]
+
 ghost use Rattle.std.specs.Prelude.{◌≡◌, cond};
 ghost use Rattle.rules.specs.Site.{read_state};
 ghost use Rattle.rules.specs.Step.{limit_kept};
@@ -9,7 +11,7 @@ ghost use Rattle.pumped.specs.Moved.{PumpedRoom, PumpedAdvanced};
 use rules::Card;
 
 // What a pumped step did: its number, and how much the pumps added and took where that is 0.
-#[derive(Drop)]
+#[derive(Clone, Copy)]
 pub struct Moved {
     pub number: u32,
     pub added: u64,

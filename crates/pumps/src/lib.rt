@@ -1,4 +1,6 @@
 // Pumps and inlets on a state's heights: what a list of them asks, what each does at its turn, and how all of it is undone.
+#![tactic(auto)]
+
 ghost use Rattle.std.specs.Prelude.{◌≡◌, true, ◌<◌, ◌*◌, ◌+◌, pos, length, get_or};
 ghost use Rattle.rules.specs.Grid.{min_z};
 ghost use Rattle.rules.specs.Site.{card_fits};
@@ -10,14 +12,14 @@ ghost use Rattle.pumps.specs.Acting.{PumpHeld, Pumpable, Pumped, Undoable, back}
 use rules::Card;
 
 // A pump as its two words.
-#[derive(Drop)]
+#[derive(Clone, Copy)]
 struct OnePump {
     cell: i32,
     amount: i32,
 }
 
 // What pumps did: whether no inlet passed the top, and how much they added and took.
-#[derive(Drop)]
+#[derive(Clone, Copy)]
 pub struct Acted {
     pub fits: bool,
     pub added: u64,

@@ -1,4 +1,6 @@
 // Texts put at the front of a lent list: bytes, a number in decimal, and a number of centimetres.
+#![tactic(auto)]
+
 ghost use Rattle.std.specs.Prelude.{◌++◌, ◌≤◌, length};
 ghost use Rattle.rules.specs.Text.{decimal, cm};
 ghost use Rattle.put.specs.Put.{Put};

@@ -5,7 +5,7 @@ ghost use Rattle.raster_laws.specs.Fields.{NamedAt, CountedAt, MeasuredAt, NoDat
 use crate::keys;
 
 // Whether a key stands there, and the word behind it.
-#[derive(Drop)]
+#[derive(Clone, Copy)]
 pub struct Named {
     pub fits: bool,
     pub start: usize,
@@ -13,7 +13,7 @@ pub struct Named {
 }
 
 // Whether a key stands there with a count, the count, and where it ends.
-#[derive(Drop)]
+#[derive(Clone, Copy)]
 pub struct Counted {
     pub fits: bool,
     pub number: u64,
@@ -21,7 +21,7 @@ pub struct Counted {
 }
 
 // Whether a key stands there with a decimal, its sign and size, and where it ends.
-#[derive(Drop)]
+#[derive(Clone, Copy)]
 pub struct Measured {
     pub fits: bool,
     pub minus: bool,
@@ -30,7 +30,7 @@ pub struct Measured {
 }
 
 // The key for no data with a decimal, or another word, which is the first value: whether one of them stands there, whether it is the key, the decimal's sign and size, and where the values begin.
-#[derive(Drop)]
+#[derive(Clone, Copy)]
 pub struct NoData {
     pub fits: bool,
     pub given: bool,

@@ -4,7 +4,7 @@ ghost use Rattle.raster_laws.specs.Heads.{Headed};
 use crate::fields;
 
 // Whether the front of a text is that of a raster; its columns, rows and side, the no-data value where one is given, and where the values begin.
-#[derive(Drop)]
+#[derive(Clone, Copy)]
 pub struct Head {
     pub fits: bool,
     pub columns: u64,

@@ -8,7 +8,7 @@ ghost use Rattle.raster_laws.specs.Decisions.{Decided};
 use crate::{product, values};
 
 // The number; where it is 0, columns, rows and side, and where the values begin, and otherwise 0 for each.
-#[derive(Drop)]
+#[derive(Clone, Copy)]
 pub struct Decision {
     pub number: u32,
     pub columns: u32,

@@ -5,7 +5,7 @@ ghost use Rattle.rules.specs.Raster.{words_of, signed};
 ghost use Rattle.raster_laws.specs.Looks.{Looked, value_fits};
 
 // Whether every word is a decimal; if so, how many there are, and whether each value fits.
-#[derive(Drop)]
+#[derive(Clone, Copy)]
 pub struct Look {
     pub decimals: bool,
     pub count: usize,

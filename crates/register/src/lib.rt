@@ -1,4 +1,6 @@
 // The register, as two lists of numbers: what is asked of it, and the list of its places.
+#![tactic(auto)]
+
 ghost use Rattle.std.specs.Prelude.{◌≡◌, true, ◌*◌, ◌≤◌, ◌<◌, pos, length, get_or, take, drop, ◌++◌};
 ghost use Rattle.rules.specs.Grid.{all};
 ghost use Rattle.rules.specs.Site.{card_fits};

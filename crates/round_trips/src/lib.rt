@@ -1,4 +1,6 @@
 // The site sheet there and back, by the calls that a host makes: what is promised of the two calls together is the contract of a function that makes both.
+#![tactic(auto)]
+
 ghost use Rattle.promises.specs.RoundTrips.{BytesBack, SiteBack};
 
 use rules::{Card, Heard, Wrote};

@@ -1,4 +1,6 @@
 // A site's rows of depth texts, a line for each.
+#![tactic(auto)]
+
 ghost use Rattle.std.specs.Prelude.{◌≡◌, cond, [], ◌++◌, ◌+◌, ◌*◌, ◌≤◌, ◌<◌, length, eqb};
 ghost use Rattle.rules.specs.Play.{comma, line_feed, cell_text, row_texts, row_lines};
 ghost use Rattle.print.specs.Appended.{Appended};

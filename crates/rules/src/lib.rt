@@ -1,10 +1,12 @@
 // The records of the trade. What they mean, and every definition that a contract cites, stands in specs/.
+#![tactic(auto)]
+
 ghost use Rattle.std.specs.Prelude.{◌≡◌};
 ghost use Rattle.rules.specs.Pumps.{HasRoom, one_more};
 
 // The site card. Sides are in micrometres, dt in milliseconds.
 #[repr(C)]
-#[derive(Drop)]
+#[derive(Clone, Copy)]
 pub struct Card {
     pub columns: u32,
     pub rows: u32,
@@ -16,7 +18,7 @@ pub struct Card {
 
 // The eighteen numbers around one inner face, between K (west or south) and L (east or north). `ahead` and `behind` lie along the
 // face's direction, `above` and `below` across it: north and south of an eastward face, east and west of a northward one.
-#[derive(Drop)]
+#[derive(Clone, Copy)]
 pub struct Face {
     // Heights before and after the step, and the ground.
     pub old_k: i32,
@@ -43,7 +45,7 @@ pub struct Face {
 
 // What a run hands from step to step: steps done, the reason it stopped, the greatest height of the starting state and each accepted one, and how much pumps added and took.
 #[repr(C)]
-#[derive(Drop)]
+#[derive(Clone, Copy)]
 pub struct Tally {
     pub steps: u32,
     pub reason: u32,
@@ -70,7 +72,7 @@ impl Tally {
 
 // The window that a finger drew: four edges in micrometres.
 #[repr(C)]
-#[derive(Drop)]
+#[derive(Clone, Copy)]
 pub struct Window {
     pub west: f64,
     pub south: f64,
@@ -80,7 +82,7 @@ pub struct Window {
 
 // A chamber of the register, in micrometres from the south-west corner.
 #[repr(C)]
-#[derive(Drop)]
+#[derive(Clone, Copy)]
 pub struct Chamber {
     pub x: i64,
     pub y: i64,
@@ -88,7 +90,7 @@ pub struct Chamber {
 
 // What the search answers.
 #[repr(C)]
-#[derive(Drop)]
+#[derive(Clone, Copy)]
 pub struct Found {
     pub number: u32,
     pub count: u32,
@@ -96,7 +98,7 @@ pub struct Found {
 
 // What the sheet reader answers.
 #[repr(C)]
-#[derive(Drop)]
+#[derive(Clone, Copy)]
 pub struct Heard {
     pub number: u32,
     pub card: Card,
@@ -104,14 +106,14 @@ pub struct Heard {
 
 // What the sheet writer answers.
 #[repr(C)]
-#[derive(Drop)]
+#[derive(Clone, Copy)]
 pub struct Wrote {
     pub number: u32,
     pub size: u32,
 }
 
 // What an inspector read off a gauge staff and typed.
-#[derive(Drop)]
+#[derive(Clone, Copy)]
 pub enum Reading {
     Metres(f64),
     Feet(f64),
@@ -120,7 +122,7 @@ pub enum Reading {
 
 // What a reading is answered by: the number, whether there is a height (1 or 0), and the height in micrometres.
 #[repr(C)]
-#[derive(Drop)]
+#[derive(Clone, Copy)]
 pub struct Staff {
     pub number: u32,
     pub read: u32,
@@ -129,7 +131,7 @@ pub struct Staff {
 
 // What the raster reader answers: the number, columns and rows, and the side of a cell in micrometres.
 #[repr(C)]
-#[derive(Drop)]
+#[derive(Clone, Copy)]
 pub struct Raster {
     pub number: u32,
     pub columns: u32,

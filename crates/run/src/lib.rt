@@ -1,4 +1,6 @@
 // The run, for any card, any lists and any words in them: the checks, a tide to work in, and the scratch list all zero at the end.
+#![tactic(auto)]
+
 ghost use Rattle.rules.specs.PublicContracts.{RunContract};
 ghost use Rattle.laws.specs.PumpChecks.{SoundPumpedWith};
 ghost use Rattle.run.specs.Roomy.{Roomy, Small};

@@ -1,4 +1,6 @@
 // Finding chambers: the search over two lists of numbers.
+#![tactic(auto)]
+
 ghost use Rattle.std.specs.Prelude.{◌≡◌, length};
 ghost use Rattle.rules.specs.Calls.{search_check};
 ghost use Rattle.rules.specs.PublicContracts.{SearchContract};

@@ -1,4 +1,6 @@
 // A site sheet before its words: how long it is, its head and its card, and what they say to its reader.
+#![tactic(auto)]
+
 mod front;
 mod size;
 

@@ -1,4 +1,6 @@
 // The sheet player: reads one sheet on standard input, and writes what the player prints.
+#![tactic(auto)]
+
 use libc::{STDIN_FILENO, STDOUT_FILENO};
 
 // The contract of `play` says that 9,298 bytes hold whatever is printed.

@@ -1,4 +1,6 @@
 // The sheet writer. It checks all that it is given, looks for 8 last, and then lays one field behind the other.
+#![tactic(auto)]
+
 ghost use Rattle.std.specs.Prelude.{◌≡◌};
 ghost use Rattle.rules.specs.Sheet.{header};
 ghost use Rattle.rules.specs.Calls.{write_number};

@@ -1,4 +1,6 @@
 // The first three checks of a site, with what a call asks besides: its card, the lengths of its lists, and every value in them.
+#![tactic(auto)]
+
 ghost use Rattle.std.specs.Prelude.{◌≡◌, true};
 ghost use Rattle.rules.specs.Site.{card_fits, lengths_fit, check_also, check as Site·check};
 ghost use Rattle.laws.specs.Facts.{Sized};

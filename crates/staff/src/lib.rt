@@ -1,5 +1,7 @@
 // What an inspector typed becomes a height, or is refused. A float is compared with 0 and multiplied once; the rest is worked out from the product's bits, and no
 // float is turned into an integer.
+#![tactic(auto)]
+
 ghost use Rattle.std.specs.Prelude.{◌≡◌, cond, T, pos};
 ghost use Rattle.std.specs.Float.{binary64};
 ghost use Rattle.std.specs.Float.Ieee.{mul, le, of_bits};

@@ -1,4 +1,6 @@
 // One step of water over a site, for any card, any lists and any words in them.
+#![tactic(auto)]
+
 ghost use Rattle.std.specs.Prelude.{◌≡◌, cond, leb};
 ghost use Rattle.rules.specs.Run.{site_step_by};
 ghost use Rattle.rules.specs.Pumps.{pumped_step_by};

@@ -1,4 +1,6 @@
 // The steps of a run of a sound site: one after another, with the tally handed from step to step.
+#![tactic(auto)]
+
 ghost use Rattle.steps.specs.Running.{RunRoom, Ended, told·run};
 
 use rules::{Card, Tally};

@@ -1,4 +1,6 @@
 // Still rows. Nothing crosses a face that has no velocity, so that a step need not look face by face at rows where none has one: they are marked once a step.
+#![tactic(auto)]
+
 ghost use Rattle.std.specs.Prelude.{◌≡◌, length};
 ghost use Rattle.rules.specs.Site.{read_state, is_zero};
 ghost use Rattle.layout.specs.Places.{FacePlace};

@@ -1,4 +1,6 @@
 // The depth text: the work on a slice that stays the caller's, and the function that hands the written part back.
+#![tactic(auto)]
+
 ghost use Rattle.std.specs.Prelude.{◌≡◌, length};
 ghost use Rattle.rules.specs.Text.{height_text};
 ghost use Rattle.rules.specs.Calls.{text_part, text_scratch};

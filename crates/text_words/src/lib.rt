@@ -1,10 +1,12 @@
 // The words of a text: where the next one begins, and where it ends.
+#![tactic(auto)]
+
 ghost use Rattle.std.specs.Prelude.{◌≡◌, ◌≤◌, length};
 ghost use Rattle.rules.specs.Raster.{parts_words};
 ghost use Rattle.raster_laws.specs.Words.{Skipped, WordAt, Word, Next};
 
 // A word's bytes: from `start` up to `end`. Where there is no word, both are the end of the text.
-#[derive(Drop)]
+#[derive(Clone, Copy)]
 pub struct Span {
     pub start: usize,
     pub end: usize,

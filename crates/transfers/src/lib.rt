@@ -1,5 +1,7 @@
 // What crosses each face in one step: the part of the tide behind the heights. One division for each inner face that has a velocity and water behind it; no
 // face is looked at in a still row.
+#![tactic(auto)]
+
 ghost use Rattle.std.specs.Prelude.{◌≡◌, ◌*◌, drop};
 ghost use Rattle.rules.specs.Grid.{grid};
 ghost use Rattle.rules.specs.Site.{read_state};

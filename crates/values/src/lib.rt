@@ -1,4 +1,6 @@
 // The values of a site: every ground level, height and velocity in its range, and the walls still.
+#![tactic(auto)]
+
 ghost use Rattle.std.specs.Prelude.{◌≡◌, ◌+◌, ◌≤◌, pos, length, get_or};
 ghost use Rattle.rules.specs.Grid.{all};
 ghost use Rattle.rules.specs.Site.{height_fits, values_fit, read_ground, read_state};

@@ -1,5 +1,7 @@
 // The arithmetic of one face's new velocity, by the first engine or the textbook's: what each function returns is said by definitions of `rules`. Two divisions, none
 // where what it would divide is 0; the textbook's rise takes one more.
+#![tactic(auto)]
+
 pub mod banks;
 mod textbook;
 

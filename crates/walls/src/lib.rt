@@ -1,4 +1,6 @@
 // The outer walls of a site: whether the velocities on them are 0.
+#![tactic(auto)]
+
 ghost use Rattle.std.specs.Prelude.{◌≡◌, ◌&&◌, ◌+◌, ◌*◌, pos, length, get_or};
 ghost use Rattle.rules.specs.Grid.{all};
 ghost use Rattle.rules.specs.Site.{is_zero, walls_still, read_state};

@@ -1,5 +1,7 @@
 // What a host may call. Every call takes any input at all: it checks what it was given and answers by document 01's numbers, and its contract
 // (rules, Contracts.antt) fixes the answer and what each list that was lent to be written holds at exit.
+#![tactic(auto)]
+
 ghost use Rattle.rules.specs.PublicContracts.{StepContract, TextbookContract, RunContract, SearchContract, RowSearchContract, ReadContract, WriteContract, TextContract, KindContract, ReadRasterContract, WriteRasterContract};
 
 use rules::{Card, Chamber, Found, Heard, Raster, Staff, Tally, Window, Wrote};

@@ -1,4 +1,6 @@
 // Words as bytes, four each, the most significant byte first.
+#![tactic(auto)]
+
 ghost use Rattle.std.specs.Prelude.{◌≡◌, ◌+◌, ◌*◌, ◌≤◌, length, drop};
 ghost use Rattle.rules.specs.Sheet.{number_in, bytes_of, words_in, words_bytes};
 ghost use Rattle.laws.specs.Laid.{laid};
