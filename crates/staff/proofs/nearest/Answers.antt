@@ -9,9 +9,10 @@ use mir.Facts.{Fits-of_lt}
 use Rattle.staff.proofs.AtLeast0.{number, plus_number}
 use Rattle.staff.proofs.Parts.{unit_pos, rest_fits, whole_fits}
 use Rattle.staff.proofs.Answers.{itself, with_nothing, zero_is, less_than_half_is, more_is, less_is, refused_is}
+use Rattle.staff.proofs.nearest.Goals as goal
+
 ruleset numbers = (number, plus_number, rules)
 ruleset standing = (itself, with_nothing, rules)
-use Rattle.staff.proofs.nearest.Goals as goal
 
 pub float_to_bits-bits : goal.float_to_bits-bits
 unfolding of_bits

@@ -21,6 +21,10 @@ nothing : without_height 0 ≡ staff_answer Nothing
 unfolding staff_answer
 nothing = refl
 
+pub measured-requires-in-Feet : goal.measured-requires-in-Feet
+unfolding of_bits
+measured-requires-in-Feet c = tt
+
 pub returns-in-Metres : goal.returns-in-Metres
 returns-in-Metres c = record { answer = c.measured.ensures ∙ in_metres _ ∙ ap staff_answer (sym (search rules)) }
 

@@ -48,6 +48,9 @@ bounds-s-second c =
     let two_in : c.args.second + c.loop-k.k * c.args.stride < length c.args.s.now = c.requires.two c.loop-k.k c.loop-k-test.true in
     two_in
 
+pub is_zero-requires-in-loop-k : goal.is_zero-requires-in-loop-k
+is_zero-requires-in-loop-k c = tt
+
 pub loop-k-preserved : goal.loop-k-preserved
 loop-k-preserved c = let b = c in
     let l = b in

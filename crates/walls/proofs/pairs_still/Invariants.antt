@@ -12,4 +12,4 @@ use Rattle.laws.specs.Gather.{Gathered, gather_none, gather_more, gather_all}
 use Rattle.walls.proofs.pairs_still.Given as goal
 
 abbrev pub invariant-loop-k : goal.invariant-loop-k
-invariant-loop-k l = Gathered l.n (λ l.k. is_zero (get_or l.s (l.first + l.k * l.stride) (pos 0)) && is_zero (get_or l.s (l.second + l.k * l.stride) (pos 0))) l.ok l.k
+invariant-loop-k l = Gathered l.n (λ k. is_zero (get_or l.s (l.first + k * l.stride) (pos 0)) && is_zero (get_or l.s (l.second + k * l.stride) (pos 0))) l.ok l.k

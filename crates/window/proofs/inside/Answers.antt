@@ -26,6 +26,7 @@ module _ (w : Window) (x y : ℤ) where
   by_x : {a : Bool} → a ≡ false → a ≡ in_order w.west (as_float x) w.east → false ≡ inside w x y
   unfolding inside
   by_x t e = rw (sym e ∙ t)
+
 ruleset tests = (both, at_least, at_most, alike, plus_nothing, minus_nothing, rules)
 
 pub returns-then-x_inside : goal.returns-then-x_inside

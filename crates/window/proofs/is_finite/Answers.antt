@@ -12,6 +12,14 @@ finite_is (inf true) = refl
 finite_is (inf false) = refl
 finite_is (fin s m e) = refl
 
+pub float_from_bits-low : goal.float_from_bits-low
+unfolding nan_bits
+float_from_bits-low c = tt
+
+pub float_from_bits-high : goal.float_from_bits-high
+unfolding nan_bits
+float_from_bits-high c = tt
+
 pub returns : goal.returns
 unfolding of_bits
 returns c = finite_is c.args.x
