@@ -1,0 +1,8 @@
+-- `check`: nothing is asked besides.
+use borrow.Author.Rules.{rules}
+use Rattle.rules.specs.Site.{check}
+use Rattle.site.proofs.check.Goals as goal
+
+pub returns : goal.returns
+unfolding check
+returns c = c.check_also.ensures

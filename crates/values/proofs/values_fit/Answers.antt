@@ -1,0 +1,32 @@
+-- `values_fit`: the bands lie in the lists.
+use borrow.Author.Rules.{rules}
+use native.Mathlib.Omega.{arith}
+use Rattle.laws.specs.Facts.{length_facts}
+use Rattle.laws.specs.Values.{values_joined}
+use Rattle.values.proofs.values_fit.Goals as goal
+
+pub overflow_sub-faces : goal.overflow_sub-faces
+overflow_sub-faces c = let l = length_facts _ _ _ c.requires.lengths in omega arith
+
+pub all_between-grounds-requires : goal.all_between-grounds-requires
+all_between-grounds-requires c = let l = length_facts _ _ _ c.requires.lengths in omega arith
+
+pub all_between-depths-requires : goal.all_between-depths-requires
+all_between-depths-requires c = let l = length_facts _ _ _ c.requires.lengths in omega arith
+
+pub all_between-speeds-requires : goal.all_between-speeds-requires
+all_between-speeds-requires c = let l = length_facts _ _ _ c.requires.lengths in omega arith
+
+pub walls_still-requires : goal.walls_still-requires
+walls_still-requires c = let o = c in
+    record { card = o.requires.card; words = (length_facts _ _ _ o.requires.lengths).state }
+
+pub returns : goal.returns
+returns c = let speeds = c in
+    let depths = speeds in
+    let grounds = depths in
+    let o = grounds in
+    let a = o.args.card in
+    let n = grounds.cells-n.ensures.0 in
+    let m = (length_facts _ _ _ o.requires.lengths).state in
+    values_joined a o.args.land.now o.args.state.now (rw n at grounds.all_between-grounds.ensures) (rw n at depths.all_between-depths.ensures) (rw (n, m) at speeds.all_between-speeds.ensures) c.walls_still.ensures

@@ -1,0 +1,30 @@
+use mathlib.Core.Path.{◌≡◌, refl, ap, ◌∙◌}
+use Prim.Native.Nat.{◌-◌, ◌≤◌}
+use native.Mathlib.Omega.{arith}
+use lib.IntN.{pos}
+use lib.ListN.{length, take, get_or}
+use mir.Syntax.{w32}
+use mir.ValLaws.{to_z-of_z}
+use Rattle.rules.specs.Sheet.{bits_of, words_bytes}
+use Rattle.laws.specs.Laid.{laid}
+use Rattle.words.proofs.Loops.{words_start, words_turn, words_end}
+use Rattle.words.proofs.put_words.Goals as goal
+
+pub loop-i-init : goal.loop-i-init
+loop-i-init c = (refl, omega arith, refl, words_start _ _ c.args.words.now)
+
+pub loop-i-preserved : goal.loop-i-preserved
+loop-i-preserved c = let w = c in
+    let z = w in
+    let l = z.loop-i in
+    let a = z.args in
+    let word = to_z-of_z w32 (get_or a.words.now l.i (pos 0)) (record { sfits = z.z-1.given }) in
+    (refl, omega arith, w.put_word.auto.0 ∙ l.invariant.2, words_turn a.words.now a.out-1.now l.out-1 _ a.at l.i w.bits_of.result (omega arith) (omega arith) l.invariant.3 (w.bits_of.ensures ∙ ap bits_of word) w.put_word.ensures)
+
+pub shape_of-out : goal.shape_of-out
+shape_of-out c = c.loop-i.invariant.2
+
+pub returns : goal.returns
+returns c = let l = c.loop-i in
+    let a = c.args in
+    words_end a.words.now a.out-1.now l.out-1 a.at l.i (omega arith) l.invariant.3
