@@ -18,9 +18,6 @@ loop-i-preserved c = let l = c.loop-i in
     let word = to_z-of_z w32 c.word_at.result (record { sfits = c.word_at.type_inv }) ∙ c.word_at.ensures in
     (refl, omega arith, length-set l.words l.i _ ∙ l.invariant.2, in_turn a.words.now l.words l.i a.at a.s.now _ (omega arith) l.invariant.3 word)
 
-pub shape_of-words : goal.shape_of-words
-shape_of-words c = c.loop-i.invariant.2
-
 pub returns : goal.returns
 returns c = let l = c.loop-i in
     let a = c.args in

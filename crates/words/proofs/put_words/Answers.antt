@@ -19,12 +19,9 @@ loop-i-preserved c = let w = c in
     let l = z.loop-i in
     let a = z.args in
     let word = to_z-of_z w32 (get_or a.words.now l.i (pos 0)) (record { sfits = z.z-1.given }) in
-    (refl, omega arith, w.put_word.auto.0 ∙ l.invariant.2, words_turn a.words.now a.out-1.now l.out-1 _ a.at l.i w.bits_of.result (omega arith) (omega arith) l.invariant.3 (w.bits_of.ensures ∙ ap bits_of word) w.put_word.ensures)
-
-pub shape_of-out : goal.shape_of-out
-shape_of-out c = c.loop-i.invariant.2
+    (refl, omega arith, w.put_word.auto.out ∙ l.invariant.2, words_turn a.words.now a.out.now l.out _ a.at l.i w.bits_of.result (omega arith) (omega arith) l.invariant.3 (w.bits_of.ensures ∙ ap bits_of word) w.put_word.ensures)
 
 pub returns : goal.returns
 returns c = let l = c.loop-i in
     let a = c.args in
-    words_end a.words.now a.out-1.now l.out-1 a.at l.i (omega arith) l.invariant.3
+    words_end a.words.now a.out.now l.out a.at l.i (omega arith) l.invariant.3
