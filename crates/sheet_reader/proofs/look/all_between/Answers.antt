@@ -1,0 +1,23 @@
+use mathlib.Core.Path.{◌∙◌}
+use Prim.Native.Nat.{◌-◌}
+use native.Mathlib.Omega.{arith}
+use mir.Val.{to_z}
+use mir.Syntax.{w32}
+use mir.Facts.{to_z-of_z}
+use Rattle.laws.specs.Between.{between}
+use Rattle.laws.specs.Gather.{Gathered, gather_none, gather_more, gather_all}
+use Rattle.laws.specs.Words.{word_at}
+use Rattle.sheet_reader.proofs.look.all_between.Goals as goal
+
+pub loop-k-init : goal.loop-k-init
+loop-k-init c = gather_none
+
+pub loop-k-preserved : goal.loop-k-preserved
+loop-k-preserved c = let w = c in
+    let l = w in
+    let word = to_z-of_z {w = w32} {z = w.word_at.result} (record { sfits = w.word_at.type_inv }) ∙ w.word_at.ensures in
+    gather_more l.loop-k.invariant l.loop-k-test.true (c.is_between-ok.ensures ∙ simp word)
+
+pub returns : goal.returns
+returns c = let f = c.ranges in
+    simp (to_z-of_z f.low, to_z-of_z f.high) at (gather_all c.loop-k.invariant c.loop-k-test.false)
