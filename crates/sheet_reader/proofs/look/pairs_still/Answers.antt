@@ -16,31 +16,31 @@ loop-k-init c = gather_none
 pub overflow_mul-step : goal.overflow_mul-step
 overflow_mul-step c =
     let turn : ℕ = c.loop-k.k in
-    let one_in : c.args.at + 4 * (c.args.first + turn c.args.stride) + 4 ≤ length c.args.sheet.now = omega (arith, c.requires.one turn) in
+    let one_in : c.args.at + 4 * (c.args.first + turn * c.args.stride) + 4 ≤ length c.args.sheet.now = omega (arith, c.requires.one turn c.loop-k-test.true) in
     omega (arith, one_in)
 
 pub overflow_add-first : goal.overflow_add-first
 overflow_add-first c =
     let turn : ℕ = c.loop-k.k in
-    let one_in : c.args.at + 4 * (c.args.first + turn c.args.stride) + 4 ≤ length c.args.sheet.now = omega (arith, c.requires.one turn) in
+    let one_in : c.args.at + 4 * (c.args.first + turn * c.args.stride) + 4 ≤ length c.args.sheet.now = omega (arith, c.requires.one turn c.loop-k-test.true) in
     omega (arith, one_in)
 
 pub word_at-a-requires : goal.word_at-a-requires
 word_at-a-requires c =
     let turn : ℕ = c.loop-k.k in
-    let one_in : c.args.at + 4 * (c.args.first + turn c.args.stride) + 4 ≤ length c.args.sheet.now = omega (arith, c.requires.one turn) in
+    let one_in : c.args.at + 4 * (c.args.first + turn * c.args.stride) + 4 ≤ length c.args.sheet.now = omega (arith, c.requires.one turn c.loop-k-test.true) in
     one_in
 
 pub overflow_add-second : goal.overflow_add-second
 overflow_add-second c =
     let turn : ℕ = c.loop-k.k in
-    let two_in : c.args.at + 4 * (c.args.second + turn c.args.stride) + 4 ≤ length c.args.sheet.now = omega (arith, c.requires.two turn) in
+    let two_in : c.args.at + 4 * (c.args.second + turn * c.args.stride) + 4 ≤ length c.args.sheet.now = omega (arith, c.requires.two turn c.loop-k-test.true) in
     omega (arith, two_in)
 
 pub word_at-b-requires : goal.word_at-b-requires
 word_at-b-requires c =
     let turn : ℕ = c.loop-k.k in
-    let two_in : c.args.at + 4 * (c.args.second + turn c.args.stride) + 4 ≤ length c.args.sheet.now = omega (arith, c.requires.two turn) in
+    let two_in : c.args.at + 4 * (c.args.second + turn * c.args.stride) + 4 ≤ length c.args.sheet.now = omega (arith, c.requires.two turn c.loop-k-test.true) in
     two_in
 
 pub is_zero-requires-in-loop-k : goal.is_zero-requires-in-loop-k

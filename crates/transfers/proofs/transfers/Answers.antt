@@ -1,0 +1,36 @@
+-- `transfers`: the part behind the heights is as long as all faces, and only that part is filled.
+use mathlib.Core.Path.{◌∙◌}
+use Prim.Native.Nat.{ℕ, ◌*◌}
+use native.Mathlib.Omega.{arith}
+use borrow.Author.Rules.{rules}
+use Rattle.laws.specs.Places.{room}
+use Rattle.laws.specs.Parts.{back_length, back_drop}
+use Rattle.transfers.proofs.transfers.Goals as goal
+
+pub overflow_mul-cells : goal.overflow_mul-cells
+overflow_mul-cells c = omega (arith, room _ c.requires.long)
+
+pub offset_bounds-tide-cells : goal.offset_bounds-tide-cells
+offset_bounds-tide-cells c = omega (arith, room _ c.requires.long)
+
+pub slice_bounds-both_ways-count : goal.slice_bounds-both_ways-count
+slice_bounds-both_ways-count c = omega (arith, room _ c.requires.long)
+
+pub slice_bounds-both_ways-start : goal.slice_bounds-both_ways-start
+slice_bounds-both_ways-start c = omega (arith, room _ c.requires.long)
+
+pub both_ways-requires : goal.both_ways-requires
+both_ways-requires c =
+    let cells : ℕ = c.args.card.rows * c.args.card.columns in
+    let start = c in
+    record {
+      limited = start.requires.limited;
+      marked = start.requires.marked;
+      long = back_length cells start.args.tide.now ∙ omega (arith, room start.args.card start.requires.long);
+    }
+
+pub returns : goal.returns
+returns c =
+    let cells : ℕ = c.args.card.rows * c.args.card.columns in
+    let start = c in
+    back_drop cells start.args.tide.now (room start.args.card start.requires.long).heights ∙ c.both_ways.ensures
