@@ -17,8 +17,7 @@ use Rattle.layout.specs.Cells.{cell_at}
 use Rattle.transfers.specs.Known.{SoundState}
 use Rattle.layout.specs.Ways.{side, speeds}
 use Rattle.transfers.proofs.Sites.{facts, speed_fits_lem, time, side_fits}
-use Rattle.heights.proofs.look.keeps_limit.Statement.{statement}
-use Rattle.heights.proofs.look.keeps_limit.Tie as tie
+use Rattle.heights.proofs.look.keeps_limit.Goals as goal
 
 abbrev word : ℤ → ℤ
 word z = to_z w32 (of_z w32 z)
@@ -37,7 +36,6 @@ module _ {c : Card} {s : List ℤ} (i j : ℕ) (cell : Cell) (sound : SoundState
         side_x = side_fits sound true;
         side_y = side_fits sound false;
       }
-
   limit_is : {kept : Bool}
       → kept ≡ leb (c.dt * ((backward (word cell.west) + forward (word cell.east)) * c.dy + (backward (word cell.south) + forward (word cell.north)) * c.dx)) (1000 * (c.dx * c.dy))
       → kept ≡ within_limit c (read_state c s) i j
@@ -51,14 +49,11 @@ module _ {c : Card} {s : List ℤ} (i j : ℕ) (cell : Cell) (sound : SoundState
         small_is cell.north (ap (λ (x : Cell). x.north) is) (speed_fits_lem sound false i (suc j)) tt,
       )
 
-cell-at-requires : tie.Need-cell-at-requires
-cell-at-requires c κs = let p = c.requires in record { card = (facts p.sound).card; heights = (facts p.sound).lengths.state; faces = (facts p.sound).lengths.state; column = p.column; row = p.row }
+pub cell_at-cell-requires : goal.cell_at-cell-requires
+cell_at-cell-requires c = let p = c.requires in record { card = (facts p.sound).card; heights = (facts p.sound).lengths.state; faces = (facts p.sound).lengths.state; column = p.column; row = p.row }
 
-keeps-limit-requires : tie.Need-keeps-limit-requires
-keeps-limit-requires c κs = search in_limit
+pub keeps_limit-requires : goal.keeps_limit-requires
+keeps_limit-requires c = search in_limit
 
-returns : tie.Need-returns
+pub returns : goal.returns
 returns c = search limit_is
-
-pub keeps_limit_spec : {M : Type 1} → statement M
-keeps_limit_spec = tie.close (tie.spec cell-at-requires keeps-limit-requires returns)

@@ -1,0 +1,80 @@
+-- `still_face`: cells K and L lie on the site, so that each of the four places lies in its list, and its word is the number there.
+use Prim.Native.Nat.{ℕ, ◌+◌, ◌*◌, ◌<◌}
+use mathlib.Core.Path.{◌∙◌}
+use native.Mathlib.Omega.{arith}
+use borrow.Author.Rules.{rules}
+use lib.Arith.{digits_lt}
+use lib.IntN.{pos}
+use lib.ListN.{length}
+use Rattle.laws.specs.Signed.{word_is}
+use Rattle.layout.specs.Places.{HeightPlace}
+use Rattle.around.specs.Still.{still_face}
+use Rattle.layout.proofs.Pointing.{Cell}
+use Rattle.around.proofs.Around.{behind, beyond}
+use Rattle.around.proofs.Flows.{ground_read}
+use Rattle.around.proofs.levels.still_face.Goals as goal
+
+pub forth-i_l-requires : goal.forth-i_l-requires
+forth-i_l-requires c =
+    let k : Cell c.args.card c.args.i c.args.j = behind c.args.east _ _ c.requires.column c.requires.row in
+    let s = c in omega (arith, k.column, s.requires.card.columns_high)
+
+pub forth-j_l-requires : goal.forth-j_l-requires
+forth-j_l-requires c =
+    let k : Cell c.args.card c.args.i c.args.j = behind c.args.east _ _ c.requires.column c.requires.row in
+    let s = c in omega (arith, k.row, s.requires.card.rows_high)
+
+pub height_at-requires : goal.height_at-requires
+height_at-requires c =
+    let k : Cell c.args.card c.args.i c.args.j = behind c.args.east _ _ c.requires.column c.requires.row in
+    let l : Cell c.args.card c.forth-i_l.result c.forth-j_l.result = beyond c.args.east _ _ c.requires.column c.requires.row c.forth-i_l.ensures c.forth-j_l.ensures in
+    let tide-in : {m n : ℕ} → Cell c.args.card m n → HeightPlace c.args.card c.args.tide.now m n = (λ h. record { long = c.requires.tide; column = h.column; row = h.row }) in
+    let s = c in search (tide-in, k, l)
+
+pub height_at-requires-2 : goal.height_at-requires-2
+height_at-requires-2 c =
+    let k : Cell c.args.card c.args.i c.args.j = behind c.args.east _ _ c.requires.column c.requires.row in
+    let l : Cell c.args.card c.forth-i_l.result c.forth-j_l.result = beyond c.args.east _ _ c.requires.column c.requires.row c.forth-i_l.ensures c.forth-j_l.ensures in
+    let tide-in : {m n : ℕ} → Cell c.args.card m n → HeightPlace c.args.card c.args.tide.now m n = (λ h. record { long = c.requires.tide; column = h.column; row = h.row }) in
+    let d = c in search (tide-in, k, l)
+
+pub word-requires : goal.word-requires
+word-requires c =
+    let k : Cell c.args.card c.args.i c.args.j = behind c.args.east _ _ c.requires.column c.requires.row in
+    let ground-in : {m n : ℕ} → Cell c.args.card m n → 0 + (n * c.args.card.columns + m) < length c.args.land.now = (λ h. omega (arith, c.requires.land, digits_lt h.row h.column)) in
+    let s = c in ground-in k
+
+pub word-requires-2 : goal.word-requires-2
+word-requires-2 c =
+    let l : Cell c.args.card c.forth-i_l.result c.forth-j_l.result = beyond c.args.east _ _ c.requires.column c.requires.row c.forth-i_l.ensures c.forth-j_l.ensures in
+    let ground-in : {m n : ℕ} → Cell c.args.card m n → 0 + (n * c.args.card.columns + m) < length c.args.land.now = (λ h. omega (arith, c.requires.land, digits_lt h.row h.column)) in
+    let d = c in ground-in l
+
+pub returns : goal.returns
+unfolding still_face
+returns c = let at_ground_k = c in
+    let at_new_l = at_ground_k in
+    let at_new_k = at_new_l in
+    let d = at_new_k in
+    let a = d.args in
+    rw (← d.forth-i_l.ensures, ← d.forth-j_l.ensures)
+    (λ x. record {
+      old_k = pos 0;
+      old_l = pos 0;
+      new_k = word_is at_new_k.height_at.result at_new_k.height_at.type_inv at_new_k.height_at.ensures x;
+      new_l = word_is at_new_l.height_at-2.result at_new_l.height_at-2.type_inv at_new_l.height_at-2.ensures x;
+      ground_k = word_is at_ground_k.word.result at_ground_k.word.type_inv (at_ground_k.word.ensures ∙ ground_read a.card a.land.now a.i a.j) x;
+      ground_l = word_is c.word-2.result c.word-2.type_inv (c.word-2.ensures ∙ ground_read a.card a.land.now d.forth-i_l.result d.forth-j_l.result) x;
+      own = pos 0;
+      ahead = pos 0;
+      behind = pos 0;
+      above_k = pos 0;
+      above_l = pos 0;
+      below_k = pos 0;
+      below_l = pos 0;
+      u = pos 0;
+      u_ahead = pos 0;
+      u_behind = pos 0;
+      u_above = pos 0;
+      u_below = pos 0;
+    })
