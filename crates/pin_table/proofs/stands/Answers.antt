@@ -1,10 +1,5 @@
-use Prim.Native.Nat.{◌-◌}
 use mathlib.Core.Path.{refl}
-use mathlib.Core.Bool.{◌||◌}
-use native.Mathlib.Omega.{arith}
-use lib.ListN.{length}
-use Rattle.pins_rules.specs.Table.{stands as Table·stands}
-use Rattle.pins_laws.specs.Folds.{Folding, stands_fold, fold_none, fold_more, fold_all}
+use Rattle.pins_laws.specs.Folds.{stands_fold, fold_none, fold_more, fold_all}
 use Rattle.pin_table.proofs.stands.Goals as goal
 
 pub loop-k-init : goal.loop-k-init

@@ -1,10 +1,6 @@
-use Prim.Native.Nat.{◌-◌}
 use mathlib.Core.Path.{ap}
 use mathlib.Core.Bool.{Bool, ◌&&◌}
-use native.Mathlib.Omega.{arith}
-use lib.ListN.{length}
-use Rattle.pins_rules.specs.Table.{words_fit}
-use Rattle.pins_laws.specs.Folds.{Folding, words_fold, fold_none, fold_more, fold_all}
+use Rattle.pins_laws.specs.Folds.{words_fold, fold_none, fold_more, fold_all}
 use Rattle.pin_table.proofs.words_fit.Goals as goal
 
 pub loop-k-init : goal.loop-k-init
