@@ -18,10 +18,9 @@ pub cell_along-row-requires : goal.cell_along-row-requires
 cell_along-row-requires c = let f = card_facts _ c.requires.card in (omega arith, omega arith)
 
 pub overflow_cast-x : goal.overflow_cast-x
-overflow_cast-x c = let o = c in
-    let card = o.args.card in
-    let f = card_facts card o.requires.card in
-    rw (to_z-of_z o.ranges.x) (along_low (card.columns * card.dx) o.args.x o.requires.x_fits, omega (arith, along_high (card.columns * card.dx) o.args.x o.requires.x_fits, reach_high f.columns_high f.dx_high))
+overflow_cast-x c = let card = c.args.card in
+    let f = card_facts card c.requires.card in
+    rw (to_z-of_z c.ranges.x) (along_low (card.columns * card.dx) c.args.x c.requires.x_fits, omega (arith, along_high (card.columns * card.dx) c.args.x c.requires.x_fits, reach_high f.columns_high f.dx_high))
 
 pub cell_along-column-requires : goal.cell_along-column-requires
 cell_along-column-requires c = let f = card_facts _ c.requires.card in (omega arith, omega arith)

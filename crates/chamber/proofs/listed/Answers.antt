@@ -80,12 +80,10 @@ returns-then-inside c =
     let depth_is : to_z w32 (of_z w32 c.args.depth) ≡ c.args.depth = to_z-of_z c.ranges.depth in
     let height_in : height_fits height ≡ true = subst (λ (k : ℕ). height_fits (get_or c.args.state.now k (pos 0)) ≡ true) (sym place_is)
     (height_fits_lem c.args.card c.args.state.now c.requires.on.card c.requires.kept c.args.x c.args.y) in
-    let at = c in
-    let o = at in
     let told = rw (height_is, depth_is) at c.deep_enough.ensures in
-    deep_is height o.args.depth height_in o.requires.asked c.deep_enough.result told
-    ∙ ap (λ (k : ℕ). le_z o.args.depth (get_or o.args.state.now k (pos 0))) place_is
-    ∙ rw (sym inside_is ∙ at.if-inside.true)
+    deep_is height c.args.depth height_in c.requires.asked c.deep_enough.result told
+    ∙ ap (λ (k : ℕ). le_z c.args.depth (get_or c.args.state.now k (pos 0))) place_is
+    ∙ rw (sym inside_is ∙ c.if-inside.true)
 
 pub returns : goal.returns
 unfolding listed

@@ -16,18 +16,16 @@ unfolding add_number
 returns-then-number-ne0 c = let said = c.chamber_number-number.ensures in said ∙ sym (first_refused _ _ (λ z. c.if-number-ne0.true (said ∙ z)))
 
 pub pin-requires : goal.pin-requires
-pin-requires c = let e = c in let g = chamber_granted _ _ _ (sym e.chamber_number-number.ensures ∙ c.if-number-ne0.false) in (omega (arith, g.known.most), g.below)
+pin-requires c = let g = chamber_granted _ _ _ (sym c.chamber_number-number.ensures ∙ c.if-number-ne0.false) in (omega (arith, g.known.most), g.below)
 
 pub held-requires : goal.held-requires
-held-requires c = let e = c in omega (arith, (chamber_granted e.args.table.now e.args.crew e.args.chamber (sym e.chamber_number-number.ensures ∙ e.if-number-ne0.false)).is_sound.sized)
+held-requires c = omega (arith, (chamber_granted c.args.table.now c.args.crew c.args.chamber (sym c.chamber_number-number.ensures ∙ c.if-number-ne0.false)).is_sound.sized)
 
 pub returns : goal.returns
 unfolding add_number pinned
-returns c = let p = c in
-    let e = p in
-    let has = p.args.table.now in
+returns c = let has = c.args.table.now in
     c.first_refusal.ensures
     ∙ ap₂ first_refusal
-    (c.unless-pinned.ensures ∙ ap (λ (b : Bool). Calls·unless (not b) 13) (c.stands.ensures ∙ ap (λ (w : ℕ). Table·stands w has) p.pin.ensures))
+    (c.unless-pinned.ensures ∙ ap (λ (b : Bool). Calls·unless (not b) 13) (c.stands.ensures ∙ ap (λ (w : ℕ). Table·stands w has) c.pin.ensures))
     (c.unless-full.ensures ∙ ap (λ (n : ℕ). Calls·unless (ltb n 32) 14) c.held.ensures)
-    ∙ sym (first_passed _ _ (sym e.chamber_number-number.ensures ∙ e.if-number-ne0.false))
+    ∙ sym (first_passed _ _ (sym c.chamber_number-number.ensures ∙ c.if-number-ne0.false))

@@ -15,4 +15,4 @@ returns-then-number-ne0 c = let said = c.crew_number-number.ensures in said ∙ 
 
 pub returns : goal.returns
 unfolding chamber_number
-returns c = let e = c in c.unless.ensures ∙ ap (λ (b : Bool). Calls·unless b 12) c.is_chamber.ensures ∙ sym (first_passed _ _ (sym e.crew_number-number.ensures ∙ e.if-number-ne0.false))
+returns c = c.unless.ensures ∙ ap (λ (b : Bool). Calls·unless b 12) c.is_chamber.ensures ∙ sym (first_passed _ _ (sym c.crew_number-number.ensures ∙ c.if-number-ne0.false))

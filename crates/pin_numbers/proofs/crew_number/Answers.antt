@@ -14,12 +14,12 @@ table_fits-requires c = omega (arith, c.requires c.if-not-lengths.false)
 
 pub returns-then-not-table_fits : goal.returns-then-not-table_fits
 unfolding crew_number first_refusal
-returns-then-not-table_fits c = let e = c in rw (e.if-not-lengths.false, sym e.table_fits.ensures ∙ c.if-not-table_fits.true)
+returns-then-not-table_fits c = rw (c.if-not-lengths.false, sym c.table_fits.ensures ∙ c.if-not-table_fits.true)
 
 pub returns-then-not-is_crew : goal.returns-then-not-is_crew
 unfolding crew_number first_refusal
-returns-then-not-is_crew c = let k = c in let e = k in rw (e.if-not-lengths.false, sym e.table_fits.ensures ∙ k.if-not-table_fits.false, sym k.is_crew.ensures ∙ c.if-not-is_crew.true)
+returns-then-not-is_crew c = rw (c.if-not-lengths.false, sym c.table_fits.ensures ∙ c.if-not-table_fits.false, sym c.is_crew.ensures ∙ c.if-not-is_crew.true)
 
 pub returns : goal.returns
 unfolding crew_number first_refusal
-returns c = let k = c in let e = k in rw (e.if-not-lengths.false, sym e.table_fits.ensures ∙ k.if-not-table_fits.false, sym k.is_crew.ensures ∙ c.if-not-is_crew.false)
+returns c = rw (c.if-not-lengths.false, sym c.table_fits.ensures ∙ c.if-not-table_fits.false, sym c.is_crew.ensures ∙ c.if-not-is_crew.false)

@@ -14,13 +14,11 @@ unfolding remove_number
 returns-then-number-ne0 c = let said = c.chamber_number-number.ensures in said ∙ sym (first_refused _ _ (λ z. c.if-number-ne0.true (said ∙ z)))
 
 pub pin-requires : goal.pin-requires
-pin-requires c = let e = c in let g = chamber_granted _ _ _ (sym e.chamber_number-number.ensures ∙ c.if-number-ne0.false) in (omega (arith, g.known.most), g.below)
+pin-requires c = let g = chamber_granted _ _ _ (sym c.chamber_number-number.ensures ∙ c.if-number-ne0.false) in (omega (arith, g.known.most), g.below)
 
 pub returns : goal.returns
 unfolding remove_number pinned
-returns c = let p = c in
-    let e = p in
-    let has = p.args.table.now in
+returns c = let has = c.args.table.now in
     c.unless.ensures
-    ∙ ap (λ (b : Bool). Calls·unless b 13) (c.stands.ensures ∙ ap (λ (w : ℕ). Table·stands w has) p.pin.ensures)
-    ∙ sym (first_passed _ _ (sym e.chamber_number-number.ensures ∙ e.if-number-ne0.false))
+    ∙ ap (λ (b : Bool). Calls·unless b 13) (c.stands.ensures ∙ ap (λ (w : ℕ). Table·stands w has) c.pin.ensures)
+    ∙ sym (first_passed _ _ (sym c.chamber_number-number.ensures ∙ c.if-number-ne0.false))

@@ -6,7 +6,7 @@ pub loop-k-init : goal.loop-k-init
 loop-k-init c = fold_none (stands_fold _)
 
 pub loop-k-preserved : goal.loop-k-preserved
-loop-k-preserved c = let at = c in fold_more (stands_fold _) at.loop-k.invariant c.loop-k-test.true refl
+loop-k-preserved c = fold_more (stands_fold _) c.loop-k.invariant c.loop-k-test.true refl
 
 pub returns : goal.returns
 returns c = fold_all (stands_fold _) c.loop-k.invariant c.loop-k-test.false

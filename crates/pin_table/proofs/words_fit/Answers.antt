@@ -7,7 +7,7 @@ pub loop-k-init : goal.loop-k-init
 loop-k-init c = fold_none words_fold
 
 pub loop-k-preserved : goal.loop-k-preserved
-loop-k-preserved c = let at = c in fold_more words_fold at.loop-k.invariant c.loop-k-test.true (ap (λ (b : Bool). at.loop-k.fit && b) c.word_fits-fit.ensures)
+loop-k-preserved c = fold_more words_fold c.loop-k.invariant c.loop-k-test.true (ap (λ (b : Bool). c.loop-k.fit && b) c.word_fits-fit.ensures)
 
 pub returns : goal.returns
 returns c = fold_all words_fold c.loop-k.invariant c.loop-k-test.false
