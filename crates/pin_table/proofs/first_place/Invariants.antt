@@ -1,9 +1,5 @@
 -- `first_place`: behind k turns it is the first of k places that has the word, or there is none among them.
-use Prim.Native.Nat.{◌-◌}
-use mathlib.Core.Logic.{⊎_elim}
-use native.Mathlib.Omega.{arith}
-use lib.ListN.{length}
-use Rattle.pins_laws.specs.FirstPlace.{Seeking, seek_none, seek_here, seek_on, seek_all}
+use Rattle.pins_laws.specs.FirstPlace.{Seeking}
 use Rattle.pin_table.proofs.first_place.Given as goal
 
 abbrev pub invariant-loop-k : goal.invariant-loop-k

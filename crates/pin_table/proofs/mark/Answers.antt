@@ -1,6 +1,5 @@
 -- `mark`: a free word marks nothing; of a pin the mark is read and stored by its chamber and its crew.
 use Rattle.pins_laws.specs.Marks.{marked_free, marked_pin}
-use borrow.Author.Rules.{rules}
 use Rattle.pin_table.proofs.mark.Goals as goal
 
 pub returns-then-word-eq0 : goal.returns-then-word-eq0

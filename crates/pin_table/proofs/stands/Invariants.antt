@@ -1,11 +1,7 @@
 -- `stands`: one turn joins one word's test to those before.
-use Prim.Native.Nat.{◌-◌}
-use mathlib.Core.Path.{refl}
 use mathlib.Core.Bool.{◌||◌}
-use native.Mathlib.Omega.{arith}
-use lib.ListN.{length}
 use Rattle.pins_rules.specs.Table.{stands as Table·stands}
-use Rattle.pins_laws.specs.Folds.{Folding, stands_fold, fold_none, fold_more, fold_all}
+use Rattle.pins_laws.specs.Folds.{Folding}
 use Rattle.pin_table.proofs.stands.Given as goal
 
 abbrev pub invariant-loop-k : goal.invariant-loop-k

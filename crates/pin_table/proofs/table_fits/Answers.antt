@@ -1,22 +1,18 @@
 -- `table_fits`: a word that does not fit, or three tests, joined as the definition joins them.
 use mathlib.Core.Path.{◌≡◌, sym, ◌∙◌}
 use mathlib.Core.Bool.{true}
-use borrow.Author.Tests.{not-true, not-false}
 use Rattle.laws.specs.Tests.{to_T}
 use Rattle.pins_rules.specs.Table.{words_fit, table_fits}
-use borrow.Author.Rules.{rules}
 use Rattle.pin_table.proofs.table_fits.Goals as goal
 
 pub returns-then-not-words_fit : goal.returns-then-not-words_fit
 unfolding table_fits
-returns-then-not-words_fit c = rw (sym c.words_fit.ensures ∙ not-true _ c.if-not-words_fit.true-raw)
+returns-then-not-words_fit c = rw (sym c.words_fit.ensures ∙ c.if-not-words_fit.true)
 
 pub each_once-once-requires : goal.each_once-once-requires
-each_once-once-requires c = let e = c in record { fit = to_T (sym e.words_fit.ensures ∙ not-false _ e.if-not-words_fit.false-raw); clear = c.no_marks-marks.ensures }
+each_once-once-requires c = record { fit = to_T (sym c.words_fit.ensures ∙ c.if-not-words_fit.false); clear = c.no_marks-marks.ensures }
 
 pub returns : goal.returns
 unfolding table_fits
-returns c = let o = c in
-    let e = o in
-    let fit : words_fit e.args.table.now ≡ true = sym e.words_fit.ensures ∙ not-false _ e.if-not-words_fit.false-raw in
-    rw fit (cc (o.each_once-once.ensures, c.held-one.ensures, c.held-two.ensures))
+returns c = let fit : words_fit c.args.table.now ≡ true = sym c.words_fit.ensures ∙ c.if-not-words_fit.false in
+    rw fit (cc (c.each_once-once.ensures, c.held-one.ensures, c.held-two.ensures))

@@ -1,6 +1,5 @@
 -- `word_fits`: three tests, joined as the definition joins them.
 use Rattle.pins_rules.specs.Table.{word_fits}
-use borrow.Author.Rules.{rules}
 use Rattle.pin_table.proofs.word_fits.Goals as goal
 
 pub returns : goal.returns

@@ -1,11 +1,7 @@
 -- `words_fit`: one turn joins one word's test to those before.
-use Prim.Native.Nat.{◌-◌}
-use mathlib.Core.Path.{ap}
-use mathlib.Core.Bool.{Bool, ◌&&◌}
-use native.Mathlib.Omega.{arith}
-use lib.ListN.{length}
+use mathlib.Core.Bool.{◌&&◌}
 use Rattle.pins_rules.specs.Table.{words_fit}
-use Rattle.pins_laws.specs.Folds.{Folding, words_fold, fold_none, fold_more, fold_all}
+use Rattle.pins_laws.specs.Folds.{Folding}
 use Rattle.pin_table.proofs.words_fit.Given as goal
 
 abbrev pub invariant-loop-k : goal.invariant-loop-k

@@ -8,13 +8,13 @@ use Rattle.staff.proofs.ByTheTest.{tested, below_0}
 use Rattle.staff.proofs.measured.Goals as goal
 
 -- above 0 is at or above 0 too: a test that leaves 0 out is refused for what it answers then
-ruleset at-least-0s = (to_T, if_above, rules)
+ruleset at_least_0s = (to_T, if_above, rules)
 
 pub nearest-requires : goal.nearest-requires
-nearest-requires c = product_at_least_0 _ _ (search rules) (search at-least-0s)
+nearest-requires c = product_at_least_0 _ _ (search rules) (search at_least_0s)
 
 pub returns-then-value : goal.returns-then-value
-returns-then-value c = c.nearest.ensures ∙ tested _ _ (search rules) (search at-least-0s)
+returns-then-value c = c.nearest.ensures ∙ tested _ _ (search rules) (search at_least_0s)
 
 pub returns : goal.returns
 returns c = c.without_height.ensures ∙ below_0 _ _ c.if-value.false

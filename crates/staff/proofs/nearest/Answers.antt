@@ -12,6 +12,7 @@ use Rattle.staff.proofs.Answers.{itself, with_nothing, zero_is, less_than_half_i
 use Rattle.staff.proofs.nearest.Goals as goal
 
 ruleset numbers = (number, plus_number, rules)
+
 ruleset standing = (itself, with_nothing, rules)
 
 pub float_to_bits-bits : goal.float_to_bits-bits

@@ -21,6 +21,10 @@ nothing : without_height 0 ≡ staff_answer Nothing
 unfolding staff_answer
 nothing = refl
 
+pub measured-requires : goal.measured-requires
+unfolding of_bits
+measured-requires c = tt
+
 pub measured-requires-in-Feet : goal.measured-requires-in-Feet
 unfolding of_bits
 measured-requires-in-Feet c = tt
