@@ -12,7 +12,7 @@ pub returns-then-at-n : goal.returns-then-at-n
 returns-then-at-n c = let f = fraction_none c.args.word.now c.args.at c.if-at-n.true in record { fits = sym f.0; size = omega (arith, f.1) }
 
 pub returns-then-word-at-ne46 : goal.returns-then-word-at-ne46
-returns-then-word-at-ne46 c = let s = c in record { fits = sym (no_point s.args.word.now s.args.at (more_behind c.requires c.if-at-n.false) (ne_eqb _ _ c.if-word-at-ne46.true)); size = refl }
+returns-then-word-at-ne46 c = record { fits = sym (no_point c.args.word.now c.args.at (more_behind c.requires c.if-at-n.false) (ne_eqb _ _ c.if-word-at-ne46.true)); size = refl }
 
 pub digits_from-digits-requires : goal.digits_from-digits-requires
 digits_from-digits-requires c = point_room c.requires (more_behind c.requires c.if-at-n.false)
