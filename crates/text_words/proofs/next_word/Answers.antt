@@ -1,7 +1,5 @@
 -- `next_word`: the word that begins behind what is passed over, or none.
 use Rattle.raster_laws.specs.Words.{starts, next_none, next_some}
-use borrow.Author.Rules.{rules}
-use borrow.Author.Rules.{rules}
 use Rattle.text_words.proofs.next_word.Goals as goal
 
 pub returns-then-start-text : goal.returns-then-start-text

@@ -1,9 +1,5 @@
-use Prim.Native.Nat.{◌-◌}
 use mathlib.Core.Path.{sym, ◌∙◌}
-use native.Mathlib.Omega.{arith}
-use lib.ListN.{length}
-use Rattle.raster_laws.specs.Words.{Spelling, spell_one, spell_more, spell_stop, spell_all}
-use borrow.Author.Rules.{rules}
+use Rattle.raster_laws.specs.Words.{spell_one, spell_more, spell_stop, spell_all}
 use Rattle.text_words.proofs.word_end.Goals as goal
 
 pub loop-i-init : goal.loop-i-init

@@ -1,7 +1,5 @@
 -- `is_minus`: the first byte, where there is one.
 use Rattle.raster_laws.specs.Sizes.{minus_none, minus_first}
-use borrow.Author.Rules.{rules}
-use borrow.Author.Rules.{rules}
 use Rattle.decimals.proofs.signs.is_minus.Goals as goal
 
 pub returns-then-word-eq0 : goal.returns-then-word-eq0

@@ -1,7 +1,5 @@
-use Prim.Native.Nat.{◌-◌}
 use native.Mathlib.Omega.{arith}
-use Rattle.raster_laws.specs.Digits.{Scaling, scale_none, scale_more, scale_all, scale_fits}
-use borrow.Author.Rules.{rules}
+use Rattle.raster_laws.specs.Digits.{scale_none, scale_more, scale_all, scale_fits}
 use Rattle.decimals.proofs.sizes.scaled.Goals as goal
 
 pub loop-k-init : goal.loop-k-init

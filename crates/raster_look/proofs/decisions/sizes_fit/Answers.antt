@@ -3,11 +3,7 @@ use mathlib.Core.Path.{ap}
 use mathlib.Core.Bool.{Bool, ◌&&◌}
 use Rattle.rules.specs.Site.{within}
 use Rattle.raster_laws.specs.Decisions.{side_between}
-use Rattle.raster_look.proofs.decisions.sizes_fit.Statement.{statement}
-use Rattle.raster_look.proofs.decisions.sizes_fit.Tie as tie
+use Rattle.raster_look.proofs.decisions.sizes_fit.Goals as goal
 
-returns : tie.Need-returns
+pub returns : goal.returns
 returns c = ap (λ (t : Bool). within 1 128 c.args.columns && within 1 128 c.args.rows && t) (side_between c.args.minus c.args.side)
-
-pub sizes_fit_spec : {M : Type 1} → statement M
-sizes_fit_spec = tie.close (tie.spec returns)
