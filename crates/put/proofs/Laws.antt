@@ -31,12 +31,9 @@ handed_none t k n h e = rw (e, fits_not t k h)
 pub handed_all : (t : List ℕ) (k n : ℕ) → length t ≤ k → n ≡ length t → take n t ≡ fitted t k
 handed_all t k n h e = rw (e, fits_in t k h) (take-length t)
 
--- and what `bytes::copy` then leaves
-pub put_handed : (t old new part : List ℕ) (r : ℕ) → part ≡ fitted t (length old) → r ≡ length part → new ≡ take (length part) part ++ drop (length part) old → Put t r old new
-put_handed t old new part r h e b = record {
-  long = e ∙ ap length h;
-  bytes = rw (e, ← h) (b ∙ ap (λ (l : List ℕ). l ++ drop (length part) old) (take-length part));
-}
+-- and what the copy of that part then leaves
+pub put_handed : (t old part : List ℕ) (r : ℕ) → part ≡ fitted t (length old) → r ≡ length part → Put t r old (part ++ drop r old)
+put_handed t old part r h e = record { long = e ∙ ap length h; bytes = ap (λ (l : List ℕ). l ++ drop r old) h }
 
 -- one byte more, behind a text that was put with room to spare
 pub put_more : {t : List ℕ} {r : ℕ} {old new : List ℕ} (d : ℕ) → Put t r old new → length t < length old → Put (t ++ (d ∷ [])) (r + 1) old (set new r d)

@@ -11,7 +11,8 @@ pub fn put_front(text: &[u8], room: &mut [u8]) -> usize
 {
     let n = text.len();
     let handed = if room.len() < n { 0 } else { n };
-    bytes::copy(&text[..handed], room)
+    room[..handed].copy_from_slice(&text[..handed]);
+    handed
 }
 
 // The decimal digits of n at the front of room, and how many.

@@ -48,8 +48,8 @@ module _ {text : ℕ → List ℕ} {each n at : ℕ} {old : List ℕ} where
         long = appended_length q (omega arith) ∙ long;
       }
 
-  pub printed-all : {i end : ℕ} {new : List ℕ} → Printing text each n at old i end new → n ≤ i → Appended (text n) at end old new × (end ≤ at + each * n)
-  printed-all {i} {end} {new} p h =
+  pub printed_all : {i end : ℕ} {new : List ℕ} → Printing text each n at old i end new → n ≤ i → Appended (text n) at end old new × (end ≤ at + each * n)
+  printed_all {i} {end} {new} p h =
       let done = p.done in
       let e : i ≡ n = omega arith in
       (appended_same (ap text e) p.put, subst (λ (k : ℕ). end ≤ at + each * k) e p.far)

@@ -38,9 +38,9 @@ pub put_told : (h : ℤ) {r : ℕ} {old new : List ℕ} → Put (depth_text h) r
 unfolding text_part text_scratch
 put_told h {r} {old} p = (p.long, p.bytes ∙ ap (λ (n : ℕ). fitted (depth_text h) (length old) ++ drop n old) p.long)
 
-pub told_put : (h : ℤ) {r : ℕ} {old new : List ℕ} → (r ≡ length (text_part h old)) × (new ≡ text_scratch h old) → Put (depth_text h) r old new
+pub told_put : (h : ℤ) {r : ℕ} {old new : List ℕ} → r ≡ length (text_part h old) → new ≡ text_scratch h old → Put (depth_text h) r old new
 unfolding text_part text_scratch
-told_put h {r} {old} t = record { long = t.0; bytes = t.1 ∙ ap (λ (n : ℕ). fitted (depth_text h) (length old) ++ drop n old) (sym t.0) }
+told_put h {r} {old} long bytes = record { long = long; bytes = bytes ∙ ap (λ (n : ℕ). fitted (depth_text h) (length old) ++ drop n old) (sym long) }
 
 -- ---- a signed height: the code reads it as `to_z w32 (of_z w32 z)`, which is z
 

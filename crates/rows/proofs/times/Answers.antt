@@ -1,0 +1,11 @@
+-- `times`: two numbers of at most 32 have a product of at most 1,024.
+use mathlib.Core.Path.{refl}
+use native.Mathlib.Omega.{arith}
+use native.Mathlib.Nat.{mul-le-mul}
+use Rattle.rows.proofs.times.Goals as goal
+
+pub overflow_mul-result : goal.overflow_mul-result
+overflow_mul-result c = omega (arith, mul-le-mul c.requires.0 c.requires.1)
+
+pub returns : goal.returns
+returns c = (refl, mul-le-mul c.requires.0 c.requires.1)
