@@ -28,27 +28,27 @@ pub height_at-requires : goal.height_at-requires
 height_at-requires c =
     let k : Cell c.args.card c.args.i c.args.j = behind c.args.east _ _ c.requires.column c.requires.row in
     let l : Cell c.args.card c.forth-i_l.result c.forth-j_l.result = beyond c.args.east _ _ c.requires.column c.requires.row c.forth-i_l.ensures c.forth-j_l.ensures in
-    let tide-in : {m n : ℕ} → Cell c.args.card m n → HeightPlace c.args.card c.args.tide.now m n = (λ h. record { long = c.requires.tide; column = h.column; row = h.row }) in
-    let s = c in search (tide-in, k, l)
+    let tide_in : (m n : ℕ) → Cell c.args.card m n → HeightPlace c.args.card c.args.tide.now m n = (λ m n h. record { long = c.requires.tide; column = h.column; row = h.row }) in
+    let s = c in search (tide_in, k, l)
 
 pub height_at-requires-2 : goal.height_at-requires-2
 height_at-requires-2 c =
     let k : Cell c.args.card c.args.i c.args.j = behind c.args.east _ _ c.requires.column c.requires.row in
     let l : Cell c.args.card c.forth-i_l.result c.forth-j_l.result = beyond c.args.east _ _ c.requires.column c.requires.row c.forth-i_l.ensures c.forth-j_l.ensures in
-    let tide-in : {m n : ℕ} → Cell c.args.card m n → HeightPlace c.args.card c.args.tide.now m n = (λ h. record { long = c.requires.tide; column = h.column; row = h.row }) in
-    let d = c in search (tide-in, k, l)
+    let tide_in : (m n : ℕ) → Cell c.args.card m n → HeightPlace c.args.card c.args.tide.now m n = (λ m n h. record { long = c.requires.tide; column = h.column; row = h.row }) in
+    let d = c in search (tide_in, k, l)
 
 pub word-requires : goal.word-requires
 word-requires c =
     let k : Cell c.args.card c.args.i c.args.j = behind c.args.east _ _ c.requires.column c.requires.row in
-    let ground-in : {m n : ℕ} → Cell c.args.card m n → 0 + (n * c.args.card.columns + m) < length c.args.land.now = (λ h. omega (arith, c.requires.land, digits_lt h.row h.column)) in
-    let s = c in ground-in k
+    let ground_in : (m n : ℕ) → Cell c.args.card m n → 0 + (n * c.args.card.columns + m) < length c.args.land.now = (λ m n h. omega (arith, c.requires.land, digits_lt h.row h.column)) in
+    let s = c in ground_in _ _ k
 
 pub word-requires-2 : goal.word-requires-2
 word-requires-2 c =
     let l : Cell c.args.card c.forth-i_l.result c.forth-j_l.result = beyond c.args.east _ _ c.requires.column c.requires.row c.forth-i_l.ensures c.forth-j_l.ensures in
-    let ground-in : {m n : ℕ} → Cell c.args.card m n → 0 + (n * c.args.card.columns + m) < length c.args.land.now = (λ h. omega (arith, c.requires.land, digits_lt h.row h.column)) in
-    let d = c in ground-in l
+    let ground_in : (m n : ℕ) → Cell c.args.card m n → 0 + (n * c.args.card.columns + m) < length c.args.land.now = (λ m n h. omega (arith, c.requires.land, digits_lt h.row h.column)) in
+    let d = c in ground_in _ _ l
 
 pub returns : goal.returns
 unfolding still_face

@@ -12,7 +12,7 @@ use Rattle.around.proofs.words.below.Goals as goal
 pub back-requires : goal.back-requires
 back-requires c =
     let there : let a = c.args in 0 < cond a.east a.j a.i = rw c.pick.ensures at c.if-pick-gt0.true in
-    let a = c.args in (picked a.east a.j a.i there).1 (not-true a.east e)
+    let a = c.args in λ e. (picked a.east a.j a.i there).1 (not-true a.east e)
 
 pub back-requires-then-pick-gt0 : goal.back-requires-then-pick-gt0
 back-requires-then-pick-gt0 c =

@@ -10,9 +10,7 @@ use Rattle.rules.specs.Site.{read_state}
 use Rattle.laws.specs.Gather.{RowsGathered, CellsGathered, rows_none, row_none, row_more, rows_more, rows_all}
 use Rattle.transfers.specs.Tide.{tide_fits}
 use Rattle.heights.proofs.tide.heights_fit.Goals as goal
-
-abbrev low : Card → List ℤ → ℕ → ℕ → Bool
-low card tide i j = le_z ((read_state card tide).height i j) (pos 50000000)
+use Rattle.heights.proofs.tide.heights_fit.Invariants.{low}
 
 pub loop-j-init : goal.loop-j-init
 loop-j-init c = rows_none

@@ -12,6 +12,10 @@ use Rattle.laws.specs.Gather.{RowsGathered, CellsGathered, rows_none, row_none, 
 use Rattle.transfers.specs.Tide.{tide_fits}
 use Rattle.heights.proofs.tide.heights_fit.Given as goal
 
+-- what each cell is asked
+abbrev pub low : Card → List ℤ → ℕ → ℕ → Bool
+low card tide i j = le_z ((read_state card tide).height i j) (pos 50000000)
+
 abbrev pub invariant-loop-i : goal.invariant-loop-i
 invariant-loop-i l = CellsGathered l.columns (low l.card l.tide) l.j l.fit l.i
 
