@@ -68,24 +68,24 @@ pub slice_bounds-velocities-count : goal.slice_bounds-velocities-count
 slice_bounds-velocities-count c =
     let cells : ℕ = c.args.card.rows * c.args.card.columns in
     let next-room : Room c.args.card.columns c.args.card.rows (length c.args.next.now) = room c.args.card c.requires.long in
-    let begun : List ℤ = c.copy.new.0 ++ drop cells c.args.next.now in
-    let begun-long : length begun ≡ length c.args.next.now = length_front c.args.next.now c.copy.new.0 cells c.copy.auto.0 in
+    let begun : List ℤ = c.copy.new.to ++ drop cells c.args.next.now in
+    let begun-long : length begun ≡ length c.args.next.now = length_front c.args.next.now c.copy.new.to cells c.copy.auto.to in
     omega (arith, begun-long, next-room)
 
 pub slice_bounds-velocities-start : goal.slice_bounds-velocities-start
 slice_bounds-velocities-start c =
     let cells : ℕ = c.args.card.rows * c.args.card.columns in
     let next-room : Room c.args.card.columns c.args.card.rows (length c.args.next.now) = room c.args.card c.requires.long in
-    let begun : List ℤ = c.copy.new.0 ++ drop cells c.args.next.now in
-    let begun-long : length begun ≡ length c.args.next.now = length_front c.args.next.now c.copy.new.0 cells c.copy.auto.0 in
+    let begun : List ℤ = c.copy.new.to ++ drop cells c.args.next.now in
+    let begun-long : length begun ≡ length c.args.next.now = length_front c.args.next.now c.copy.new.to cells c.copy.auto.to in
     omega (arith, begun-long, next-room)
 
 pub velocities-requires : goal.velocities-requires
 velocities-requires c =
     let cells : ℕ = c.args.card.rows * c.args.card.columns in
     let next-room : Room c.args.card.columns c.args.card.rows (length c.args.next.now) = room c.args.card c.requires.long in
-    let begun : List ℤ = c.copy.new.0 ++ drop cells c.args.next.now in
-    let begun-long : length begun ≡ length c.args.next.now = length_front c.args.next.now c.copy.new.0 cells c.copy.auto.0 in
+    let begun : List ℤ = c.copy.new.to ++ drop cells c.args.next.now in
+    let begun-long : length begun ≡ length c.args.next.now = length_front c.args.next.now c.copy.new.to cells c.copy.auto.to in
     let d = c in
     record {
       flowing = d.requires.flowing;
