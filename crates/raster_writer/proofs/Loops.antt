@@ -68,5 +68,5 @@ module _ {text : ℕ → List ℕ} {n each : ℕ} where
   pub sum_most : {size i : ℕ} → Summing text n each size i → size ≤ n * each
   sum_most {size} {i} g = omega (arith, g.few, mul-le-mul g.most (le_refl each))
 
-  pub sum-all : {size i : ℕ} → Summing text n each size i → n ≤ i → size ≡ length (text n)
-  sum-all {size} {i} g h = g.is ∙ ap (λ (k : ℕ). length (text k)) (let m = g.most in let e : i ≡ n = omega arith in e)
+  pub sum_all : {size i : ℕ} → Summing text n each size i → n ≤ i → size ≡ length (text n)
+  sum_all {size} {i} g h = g.is ∙ ap (λ (k : ℕ). length (text k)) (let m = g.most in let e : i ≡ n = omega arith in e)
