@@ -15,7 +15,7 @@ use Rattle.laws.specs.Signed.{narrow_fits, narrow_is}
 
 module _ (z : ℤ) {x : ℤ} {fits : Bool} (ok : mag z < 2 ^ 63) (e : z ≡ x) (says : fits ≡ speed_fits (to_z w64 (of_z w64 z))) where
   pub speed_says : fits ≡ speed_fits x
-  speed_says = says ∙ ap speed_fits (to_z-of_z (record { sfits = ok }) ∙ e)
+  speed_says = says ∙ ap speed_fits (to_z-of_z {w = w64} (record { sfits = ok }) ∙ e)
 
   module _ (t : fits ≡ true) where
     small : Within 20000000 x

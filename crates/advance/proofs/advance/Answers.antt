@@ -1,0 +1,7 @@
+-- `advance`: the marks have room for every row of a sound site.
+use borrow.Author.Rules.{rules}
+use Rattle.advance.proofs.Answers.{sound, marks_room}
+use Rattle.advance.proofs.advance.Goals as goal
+
+pub mark-requires : goal.mark-requires
+mark-requires c = marks_room (sound c.requires) c.no_marks-marks.ensures

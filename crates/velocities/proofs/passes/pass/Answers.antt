@@ -1,0 +1,69 @@
+use mathlib.Core.Path.{sym, ap₂, ◌∙◌}
+use mathlib.Core.Bool.{not}
+use Prim.Native.Nat.{◌*◌, ◌-◌}
+use native.Mathlib.Nat.{le_refl}
+use native.Mathlib.Omega.{arith}
+use borrow.Author.Rules.{rules}
+use borrow.Author.Tests.{not-true, not-false}
+use Rattle.rules.specs.Site.{speed_fits}
+use Rattle.laws.specs.Engines.{engine}
+use Rattle.laws.specs.Tests.{true_of, and_left, and_right, to_T}
+use Rattle.laws.specs.Passes.{place}
+use Rattle.laws.specs.Tested.{RowsTested, CellsTested, begin, begin_row, more, more_rows, done, left}
+use Rattle.still.proofs.Rows.{both_rows}
+use Rattle.velocities.specs.Velocities.{new_speeds}
+use Rattle.velocities.proofs.Speeds.{speed_says, speed_fits_word, speed_word}
+use Rattle.velocities.proofs.passes.pass.Goals as goal
+
+pub loop-j-init : goal.loop-j-init
+loop-j-init c = begin (rw (c.high-high.ensures, c.wide-wide.ensures, c.requires.long) (le_refl _))
+
+pub both_still-requires : goal.both_still-requires
+both_still-requires c = record { room = c.requires.marked.room; row = rw c.high-high.ensures at c.loop-j-test.true }
+
+pub loop-i-init : goal.loop-i-init
+loop-i-init c = begin_row c.loop-j.invariant
+
+pub velocity-u-requires : goal.velocity-u-requires
+velocity-u-requires c = let r = c in
+    let d = r in
+    record {
+      flowing = d.requires.flowing;
+      face = record { column = omega (arith, d.wide-wide.ensures); row = omega (arith, d.high-high.ensures) };
+      both = λ t. both_rows d.requires.marked _ (omega (arith, d.high-high.ensures)) (sym r.both_still.ensures ∙ true_of _ (and_right (not d.args.textbook) _ (to_T t)));
+      first_engine = λ t. not-true _ (true_of _ (and_left (not d.args.textbook) _ (to_T t)));
+    }
+
+pub returns-then-not-speed_fits : goal.returns-then-not-speed_fits
+returns-then-not-speed_fits c = let v = c.velocity-u in
+    let d = c in
+    let h = d in
+    rw (← h.wide-wide.ensures, ← h.high-high.ensures)
+    (left d.loop-i.invariant d.loop-j-test.true d.loop-i-test.true
+    (sym (speed_says v.result v.type_inv v.ensures c.speed_fits.ensures) ∙ c.if-not-speed_fits.true))
+
+pub overflow_cast-u : goal.overflow_cast-u
+overflow_cast-u c = let v = c.velocity-u in
+    speed_fits_word v.result v.type_inv v.ensures c.speed_fits.ensures (c.if-not-speed_fits.false)
+
+pub put-requires : goal.put-requires
+put-requires c = let d = c in
+    place d.loop-i.invariant.filled d.loop-j-test.true d.loop-i-test.true
+
+pub loop-i-preserved : goal.loop-i-preserved
+loop-i-preserved c = let tested = c in
+    let fits = c.if-not-speed_fits.false in
+    let v = tested.velocity-u in
+    let d = tested in
+    more d.loop-i.invariant d.loop-j-test.true d.loop-i-test.true c.put.ensures
+    (speed_word v.result v.type_inv v.ensures tested.speed_fits.ensures fits)
+    (sym (speed_says v.result v.type_inv v.ensures tested.speed_fits.ensures) ∙ fits)
+
+pub loop-j-preserved : goal.loop-j-preserved
+loop-j-preserved c = let r = c in
+    more_rows r.loop-j.invariant c.loop-i.invariant r.loop-j-test.true c.loop-i-test.false
+
+pub returns : goal.returns
+returns c = let h = c in
+    rw (← h.wide-wide.ensures, ← h.high-high.ensures)
+    (done c.loop-j.invariant c.loop-j-test.false (h.requires.long ∙ sym (ap₂ ◌*◌ h.high-high.ensures h.wide-wide.ensures)))

@@ -1,0 +1,37 @@
+-- `passes::velocity`: 0 on a wall; any other face has a cell behind it.
+use mir.Syntax.{w64}
+use mathlib.Core.Path.{◌≡◌, ◌∙◌, sym}
+use mathlib.Core.Bool.{false}
+use borrow.Author.Rules.{rules}
+use mir.Facts.{to_z-of_z}
+use Rattle.layout.specs.Ways.{is_wall}
+use Rattle.layout.proofs.Pointing.{beside}
+use Rattle.velocities.proofs.Velocities.{new_is, on_inner, inner_is}
+use Rattle.velocities.proofs.passes.velocity.Goals as goal
+
+pub returns-then-is_wall : goal.returns-then-is_wall
+returns-then-is_wall c = sym (new_is _ _ _ _ _ c.requires.face ∙ rw (sym c.is_wall.ensures ∙ c.if-is_wall.true))
+
+pub returns : goal.returns
+returns c =
+    let no-wall : let a = c.args in is_wall a.card a.east a.i a.j ≡ false = sym c.is_wall.ensures ∙ c.if-is_wall.false in
+    let e = c in
+    to_z-of_z {w = w64} (record { sfits = c.velocity.type_inv })
+    ∙ c.velocity.ensures
+    ∙ inner_is e.requires no-wall c.back-k.ensures c.back-l.ensures _
+
+pub back-k-requires : goal.back-k-requires
+back-k-requires c =
+    let no-wall : let a = c.args in is_wall a.card a.east a.i a.j ≡ false = sym c.is_wall.ensures ∙ c.if-is_wall.false in
+    (beside _ _ _ _ c.requires.face no-wall).back_east
+
+pub back-l-requires : goal.back-l-requires
+back-l-requires c =
+    let no-wall : let a = c.args in is_wall a.card a.east a.i a.j ≡ false = sym c.is_wall.ensures ∙ c.if-is_wall.false in
+    (beside _ _ _ _ c.requires.face no-wall).back_north
+
+pub velocity-requires : goal.velocity-requires
+velocity-requires c =
+    let no-wall : let a = c.args in is_wall a.card a.east a.i a.j ≡ false = sym c.is_wall.ensures ∙ c.if-is_wall.false in
+    let e = c in
+    on_inner e.requires no-wall c.back-k.ensures c.back-l.ensures
