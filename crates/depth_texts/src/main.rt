@@ -6,32 +6,32 @@ mod spoilt;
 
 ghost use Rattle.std.specs.Prelude.{◌≡◌, ◌≤◌, length};
 
-use libc::STDOUT_FILENO;
+use std::io;
 
-fn say(text: &[u8]) {
-    io::write_all(STDOUT_FILENO, text);
+fn say(rt: &impl Print, text: &[u8]) -> io::Result<()> {
+    rt.write_all(text)
 }
 
 // A part that was handed back: its length and its bytes.
-fn say_part(part: &[u8]) {
-    io::print_decimal(STDOUT_FILENO, part.len() as u64);
-    say(b" [");
-    say(part);
-    say(b"] in [");
+fn say_part(rt: &impl Print, part: &[u8]) -> io::Result<()> {
+    rt.print(part.len())?;
+    say(rt, b" [")?;
+    say(rt, part)?;
+    say(rt, b"] in [")
 }
 
-fn say_depth(height: i32, scratch: &mut [u8]) {
+fn say_depth(rt: &impl Print, height: i32, scratch: &mut [u8]) -> io::Result<()> {
     let part = water::depth_text(height, scratch);
-    say_part(part);
-    say(scratch);
-    say(b"]");
+    say_part(rt, part)?;
+    say(rt, scratch)?;
+    say(rt, b"]")
 }
 
-fn say_spoilt(height: i32, scratch: &mut [u8]) {
+fn say_spoilt(rt: &impl Print, height: i32, scratch: &mut [u8]) -> io::Result<()> {
     let part = spoilt::depth_text(height, scratch);
-    say_part(part);
-    say(scratch);
-    say(b"]");
+    say_part(rt, part)?;
+    say(rt, scratch)?;
+    say(rt, b"]")
 }
 
 // A scratch of ten bytes that no text has, each another.
@@ -42,39 +42,40 @@ fn letters() -> [u8; 10]
 }
 
 // One line: a height, and what becomes of the first so many letters.
-fn say_line(name: &[u8], height: i32, bytes: usize)
+fn say_line(rt: &impl Print, name: &[u8], height: i32, bytes: usize) -> io::Result<()>
     requires { bytes ≤ 10 }
 {
-    say(name);
-    say(b": ");
+    say(rt, name)?;
+    say(rt, b": ")?;
     let mut scratch = letters();
-    say_depth(height, &mut scratch[..bytes]);
-    say(b"; spoilt ");
+    say_depth(rt, height, &mut scratch[..bytes])?;
+    say(rt, b"; spoilt ")?;
     let mut other = letters();
-    say_spoilt(height, &mut other[..bytes]);
-    say(b"\n");
+    say_spoilt(rt, height, &mut other[..bytes])?;
+    say(rt, b"\n")
 }
 
 // A scratch of each length: none, too short, just right, and longer.
-fn say_lines(name: &[u8], height: i32) {
+fn say_lines(rt: &impl Print, name: &[u8], height: i32) -> io::Result<()> {
     let mut bytes = 0;
     while bytes <= 10 {
-        say_line(name, height, bytes);
+        say_line(rt, name, height, bytes)?;
         bytes += 1;
     }
+    Ok(())
 }
 
 // Both ends of the numbers, of the range, of each kind of text, and of a rounding.
-fn main() {
-    say_lines(b"-2,147,483,648", -2147483648);
-    say_lines(b"-1", -1);
-    say_lines(b"0", 0);
-    say_lines(b"1", 1);
-    say_lines(b"9,999", 9999);
-    say_lines(b"10,000", 10000);
-    say_lines(b"14,999", 14999);
-    say_lines(b"15,000", 15000);
-    say_lines(b"50,000,000", 50000000);
-    say_lines(b"50,000,001", 50000001);
-    say_lines(b"2,147,483,647", 2147483647);
+fn main(rt: HostRuntime) -> io::Result<()> {
+    say_lines(&rt, b"-2,147,483,648", -2147483648)?;
+    say_lines(&rt, b"-1", -1)?;
+    say_lines(&rt, b"0", 0)?;
+    say_lines(&rt, b"1", 1)?;
+    say_lines(&rt, b"9,999", 9999)?;
+    say_lines(&rt, b"10,000", 10000)?;
+    say_lines(&rt, b"14,999", 14999)?;
+    say_lines(&rt, b"15,000", 15000)?;
+    say_lines(&rt, b"50,000,000", 50000000)?;
+    say_lines(&rt, b"50,000,001", 50000001)?;
+    say_lines(&rt, b"2,147,483,647", 2147483647)
 }

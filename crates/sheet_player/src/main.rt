@@ -1,18 +1,19 @@
 // The sheet player: reads one sheet on standard input, and writes what the player prints.
 #![tactic(auto)]
 
-use libc::{STDIN_FILENO, STDOUT_FILENO};
+use std::io;
+use std::io::Read;
 
 // The contract of `play` says that 9,298 bytes hold whatever is printed.
-fn answer(input: &[u8]) {
+fn answer(rt: &impl Print, input: &[u8]) -> io::Result<()> {
     let mut out = [0u8; 9298];
     let n = play::play(input, &mut out);
-    io::write_all(STDOUT_FILENO, &out[..n]);
+    rt.write_all(&out[..n])
 }
 
 // One byte more than a sheet may have is enough to see that there are too many.
-fn main() {
-    let mut input = [0u8; 16660];
-    let n = io::read_full(STDIN_FILENO, &mut input);
-    answer(&input[..n]);
+fn main(rt: HostRuntime) -> io::Result<()> {
+    let mut input = Vec::new(rt.alloc());
+    rt.reader().take(16660).read_to_end(&mut input)?;
+    answer(&rt, &input)
 }
