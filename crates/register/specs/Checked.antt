@@ -1,5 +1,5 @@
 -- What the register's parts may rest on once the checks have passed.
-use Rattle.std.specs.Prelude.{◌≡◌, true, List, ℕ, ◌*◌, ◌≤◌, ℤ, length}
+use Rattle.std.specs.Prelude.{◌≡◌, true, List, ◌*◌, ◌≤◌, ℤ, length}
 use Rattle.rules.specs.declared.Card.{Card}
 use Rattle.rules.specs.Site.{card_fits, cells, height_fits, heights_fit, read_state}
 use Rattle.rules.specs.Search.{all_along}

@@ -1,0 +1,27 @@
+-- `asked_fits`: four tests, joined as the definition joins them.
+use mathlib.Core.Path.{◌≡◌, ◌∙◌, ap}
+use Prim.Native.Nat.{◌*◌}
+use mir.Syntax.{w64}
+use mir.Facts.{to_z-of_z}
+use Rattle.rules.specs.Site.{height_fits}
+use Rattle.rules.specs.Search.{all_along, asked_fits}
+use Rattle.laws.specs.Facts.{card_facts}
+use Rattle.register.proofs.asked_fits.Goals as goal
+
+pub reach-requires : goal.reach-requires
+reach-requires c = let f = card_facts _ c.requires in (f.columns_high, f.dx_high)
+
+pub reach-requires-2 : goal.reach-requires-2
+reach-requires-2 c = let f = card_facts _ c.requires in (f.rows_high, f.dy_high)
+
+pub returns : goal.returns
+unfolding asked_fits
+returns c = let height = c in
+    let y = height in
+    let x = y in
+    let o = x in
+    let a = o.args in
+    let x_is : x.all_along-x.result ≡ all_along (a.card.columns * a.card.dx) a.xs.now = x.all_along-x.ensures ∙ simp (to_z-of_z {w = w64} {z = x.reach.result} (record { sfits = x.reach.type_inv }) ∙ x.reach.ensures) in
+    let y_is : y.all_along-y.result ≡ all_along (a.card.rows * a.card.dy) a.ys.now = y.all_along-y.ensures ∙ simp (to_z-of_z {w = w64} {z = y.reach-2.result} (record { sfits = y.reach-2.type_inv }) ∙ y.reach-2.ensures) in
+    let height_is : height.height_fits.result ≡ height_fits a.depth = height.height_fits.ensures ∙ ap height_fits (to_z-of_z o.ranges.depth) in
+    cc (x_is, y_is, height_is, c.edges_finite.ensures)

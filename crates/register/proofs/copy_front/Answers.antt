@@ -1,0 +1,18 @@
+use native.Mathlib.Omega.{arith}
+use Rattle.laws.specs.Fronts.{copy_none, copy_more, copy_length, copy_all}
+use Rattle.register.proofs.copy_front.Goals as goal
+
+pub loop-k-init : goal.loop-k-init
+loop-k-init c = copy_none
+
+pub bounds-found-k : goal.bounds-found-k
+bounds-found-k c = let at = c in omega (arith, copy_length at.loop-k.invariant at.requires.0 at.requires.1)
+
+pub loop-k-preserved : goal.loop-k-preserved
+loop-k-preserved c = let at = c in copy_more 0 at.loop-k.invariant c.loop-k-test.true at.requires.0 at.requires.1
+
+pub shape_of-found : goal.shape_of-found
+shape_of-found c = copy_length c.loop-k.invariant c.requires.0 c.requires.1
+
+pub returns : goal.returns
+returns c = copy_all c.loop-k.invariant c.loop-k-test.false
