@@ -1,0 +1,16 @@
+-- Where it calls itself, the state is longer than the room, and the next larger lists have more room; all else is handed on.
+use Rattle.std.proofs.Common.{◌≤◌, length, arith, rules}
+use Rattle.step.proofs.Rooms.{room_few, room_grows}
+use Rattle.step.proofs.+pumped_within.Goals as goal
+
+pub pumped_within-requires : goal.pumped_within-requires
+pumped_within-requires t c =
+    let a = c.args in
+    let few : length a.next.now ≤ 49408 = room_few a.card a.land.now a.state.now a.next.now c.requires.site in
+    (omega (arith, c.more_room.ensures, room_grows a.room c.if-next-room.true few), search rules)
+
+pub large_pumped-requires : goal.large_pumped-requires
+large_pumped-requires t c =
+    let a = c.args in
+    let few : length a.next.now ≤ 49408 = room_few a.card a.land.now a.state.now a.next.now c.requires.site in
+    search (rules, few)
