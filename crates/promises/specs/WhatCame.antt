@@ -3,7 +3,7 @@
 -- It is so on every inner face of every site that passes the first three checks and keeps the step limit, whether or not the step is refused later.
 use Rattle.std.specs.Prelude.{ℕ, suc, ◌≡◌, refl, true, false, List, ℤ, pos, ◌+ℤ◌, ◌-ℤ◌, T}
 use Rattle.std.proofs.Common.{sym, ◌∙◌}
-use Rattle.std.proofs.Math.IntN.{-ℤ-+ℤ_cancel}
+use Rattle.std.proofs.Math.IntN.{ -ℤ-+ℤ_cancel}
 use Rattle.std.specs.Int.Signed.{le_z, lt_z}
 use Rattle.rules.specs.declared.Card.{Card}
 use Rattle.rules.specs.declared.Face.{Face}
