@@ -1,6 +1,4 @@
-// Finding chambers in a row of chamber records: they are gathered into one array of numbers, and the search is over that. The borrow
-// checker covers no function over a slice of structs, so `gather` is proved by hand; it leaves the work to functions on plain values,
-// which are covered.
+// Finding chambers in a row of chamber records: they are gathered into one array of numbers, and the search is over that.
 #![tactic(auto)]
 
 ghost use Rattle.std.specs.Prelude.{◌≡◌, ◌≤◌, ◌<◌, length};
