@@ -1,5 +1,5 @@
 // What a host may call of the pin table, a product above the library. Every call takes any input at all: it checks what it was given and answers by document 02's
-// numbers, and its contract (pins_rules, Contracts.antt) fixes the answer and what the list that was lent to be written holds at exit.
+// numbers, and its contract (pins_rules, PublicContracts.antt) fixes the answer and what the list that was lent to be written holds at exit.
 #![tactic(auto)]
 
 ghost use Rattle.pins_rules.specs.PublicContracts.{AddContract, RemoveContract, ListContract};

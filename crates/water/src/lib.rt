@@ -1,5 +1,5 @@
-// What a host may call. Every call takes any input at all: it checks what it was given and answers by document 01's numbers, and its contract
-// (rules, Contracts.antt) fixes the answer and what each list that was lent to be written holds at exit.
+// What a host may call; `water_c` hands these calls over to C. Every call takes any input at all: it checks what it was given and answers by document 01's numbers, and its contract
+// (rules, PublicContracts.antt) fixes the answer and what each list that was lent to be written holds at exit.
 #![tactic(auto)]
 
 ghost use Rattle.rules.specs.PublicContracts.{StepContract, TextbookContract, RunContract, SearchContract, RowSearchContract, ReadContract, WriteContract, TextContract, KindContract, ReadRasterContract, WriteRasterContract};
@@ -13,8 +13,7 @@ pub use text::depth_text;
 pub use staff::staff_height;
 
 // One step: its number, and the next state. Refused: the next state as lent. Pumps are lent as words, cell and amount by turns; they act before the step.
-#[unsafe(no_mangle)]
-pub extern "C" fn water_step(
+pub fn water_step(
     card: Card,
     land: &[i32],
     state: &[i32],
@@ -28,8 +27,7 @@ pub extern "C" fn water_step(
 
 // The same by the textbook engine, which keeps the pressure term and the ground term of a new velocity apart as the paper does. Every answer and every list is
 // that of water_step.
-#[unsafe(no_mangle)]
-pub extern "C" fn water_step_textbook(
+pub fn water_step_textbook(
     card: Card,
     land: &[i32],
     state: &[i32],
@@ -43,8 +41,7 @@ pub extern "C" fn water_step_textbook(
 
 // A run: steps done, reason and top, and how much its pumps added and took; the last accepted state in the place of the first, and the scratch list all zero.
 // Reasons 1 to 3: both lists as lent.
-#[unsafe(no_mangle)]
-pub extern "C" fn water_run(
+pub fn water_run(
     card: Card,
     land: &[i32],
     state: &mut [i32],
@@ -58,8 +55,7 @@ pub extern "C" fn water_run(
 
 // The chambers of a register, lent as two lists of numbers, that lie in the window and under at least so much water: the number, the count, and the places
 // in the register at the front of `found`. Refused: the list as lent; 8 tells the count needed.
-#[unsafe(no_mangle)]
-pub extern "C" fn water_search_lists(
+pub fn water_search_lists(
     card: Card,
     land: &[i32],
     state: &[i32],
@@ -74,10 +70,8 @@ pub extern "C" fn water_search_lists(
     search::search_lists(card, land, state, xs, ys, window, depth, found)
 }
 
-// The same over a row of chamber records, with the same answer for every input. No chamber is read before the card and the lengths are right. The borrow checker
-// covers no function over a slice of structs, so this one is proved by hand, and only hands on.
-#[unsafe(no_mangle)]
-pub extern "C" fn water_search(
+// The same over a row of chamber records, with the same answer for every input. No chamber is read before the card and the lengths are right.
+pub fn water_search(
     card: Card,
     land: &[i32],
     state: &[i32],
@@ -102,16 +96,14 @@ pub extern "C" fn water_search(
 }
 
 // The site of a sheet: the number and the card, and its ground and its state in the lent lists. Refused: an all-zero card, both lists as lent.
-#[unsafe(no_mangle)]
-pub extern "C" fn water_read_sheet(sheet: &[u8], land: &mut [i32], state: &mut [i32]) -> Heard
+pub fn water_read_sheet(sheet: &[u8], land: &mut [i32], state: &mut [i32]) -> Heard
     ensures { ReadContract sheet.now land.old state.old result land.new state.new }
 {
     sheet_reader::read_sheet(sheet, land, state)
 }
 
 // The sheet of a site: the number and the size, and the bytes in front of the lent list. Refused: size 0, the bytes as lent.
-#[unsafe(no_mangle)]
-pub extern "C" fn water_write_sheet(
+pub fn water_write_sheet(
     card: Card,
     land: &[i32],
     state: &[i32],
@@ -124,8 +116,7 @@ pub extern "C" fn water_write_sheet(
 
 // The depth text of a height at the front of the scratch, and its length; 0 and the scratch as lent where the height is out of range or the scratch is
 // shorter than the text.
-#[unsafe(no_mangle)]
-pub extern "C" fn water_depth_text(height: i32, scratch: &mut [u8]) -> usize
+pub fn water_depth_text(height: i32, scratch: &mut [u8]) -> usize
     ensures { TextContract height scratch.old result scratch.new }
 {
     text::write_text(height, scratch)
@@ -133,8 +124,7 @@ pub extern "C" fn water_depth_text(height: i32, scratch: &mut [u8]) -> usize
 
 // What an inspector read off a gauge staff and typed, by its kind (0 no reading, 1 metres, 2 feet) and its value: the number, whether there is a height, and the height.
 // Refused with 3, any other kind too: no height.
-#[unsafe(no_mangle)]
-pub extern "C" fn water_staff(kind: u32, value: f64) -> Staff
+pub fn water_staff(kind: u32, value: f64) -> Staff
     ensures { KindContract kind value result }
 {
     staff::staff_of_kind(kind, value)
@@ -142,16 +132,14 @@ pub extern "C" fn water_staff(kind: u32, value: f64) -> Staff
 
 // The ground of a surveyor's raster: the number, columns, rows and the side of a cell, and the levels in the lent list, which has columns · rows words. Refused: all 0,
 // the list as lent.
-#[unsafe(no_mangle)]
-pub extern "C" fn water_read_raster(text: &[u8], land: &mut [i32]) -> Raster
+pub fn water_read_raster(text: &[u8], land: &mut [i32]) -> Raster
     ensures { ReadRasterContract text.now land.old result land.new }
 {
     raster_reader::read_raster(text, land)
 }
 
 // The raster of a ground whose cells are square: the number and the size, and the text in front of the lent list. Refused: size 0, the text as lent.
-#[unsafe(no_mangle)]
-pub extern "C" fn water_write_raster(card: Card, land: &[i32], text: &mut [u8]) -> Wrote
+pub fn water_write_raster(card: Card, land: &[i32], text: &mut [u8]) -> Wrote
     ensures { WriteRasterContract card land.now text.old result text.new }
 {
     raster_writer::write_raster(card, land, text)
