@@ -5,7 +5,7 @@
 # Also: no file of specs/ is called Contracts, and no variable is called `ground`, which is a tactic's name.
 import os, re, sys, collections
 
-top = sys.argv[1] if len(sys.argv) > 1 else '.'
+top = next((a for a in sys.argv[1:] if not a.startswith('--')), '.')
 SELF = ('.antt', '.rt', '.edit')
 TOKEN = re.compile(r"[^\s(){}\[\];,.\"`@]+")
 # what stands in for a contract's file name, and for a variable that a tactic's name hides
@@ -171,6 +171,26 @@ if '--dry' in sys.argv:
     for w in sorted(log):
         print(w, *sorted(log[w]))
     sys.exit(0)
+# ---- names that the rule left with a dash where no two names are joined, and names with a middle dot, which stands for a module
+AFTER = {w: w.replace('-', '_') for w in (
+    'grounds-flat minus_zero-answer next-sum next-sum_by run-sum pumped-sum same_pumped-check next-room played-run printed-played pumped-room '
+    'free-stands places-empty number-written sum-all printed-all all-add').split()}
+def after(t):
+    out, i = '', 0
+    for m in TOKEN.finditer(t):
+        w = m.group()
+        w = AFTER.get(w, w)
+        if re.match(r"^[A-Za-z_]+·[a-z][\w'-]*$", w):
+            a, b = w.split('·')
+            w = a.lower() + '_' + b.replace('-', '_')
+        out += t[i:m.start()] + w
+        i = m.end()
+    return out + t[i:]
+if '--after' in sys.argv:
+    result = {f: after(t) for f, t in texts.items()}
+else:
+    result = {f: after(t) for f, t in result.items()}
+
 for f in files:
     if result[f] != texts[f]:
         open(f, 'w', encoding='utf-8').write(result[f])

@@ -70,8 +70,8 @@ module _ {c : Card} {t : List ℤ} (s : List ℤ) (limit : limit_kept c (read_st
       let h : new_heights_fit c (read_state c s) ≡ false = sym fit_is ∙ not-true fit b in
       record { number = rw (limit, h); state = λ e. absurd (suc-ne-zero 4 e) }
 
-  pub next-room : not fit ≡ false → {g : List ℤ} → Sound c g s → {marks : List Bool} → Marked c s marks → {n : List ℤ} → length n ≡ state_length c → NextRoom c g s t marks n
-  next-room b sound m long =
+  pub next_room : not fit ≡ false → {g : List ℤ} → Sound c g s → {marks : List Bool} → Marked c s marks → {n : List ℤ} → length n ≡ state_length c → NextRoom c g s t marks n
+  next_room b sound m long =
       record { flowing = record { sound = sound; limit = limit; heights = sym fit_is ∙ not-false fit b; tide = holds }; marked = m; long = long }
 
 -- the new velocities

@@ -11,7 +11,7 @@ use lib.ListN.{length, get_or}
 use Rattle.rules.specs.declared.Card.{Card}
 use Rattle.rules.specs.Site.{read_ground, read_state}
 use Rattle.rules.specs.Step.{new_height}
-use Rattle.laws.specs.Places.{height_in, height_read as Places·height-read}
+use Rattle.laws.specs.Places.{height_in, height_read as places_height_read}
 use Rattle.laws.specs.Reading.{long_of, height_read, east_read, north_read}
 use Rattle.transfers.proofs.Sites.{facts}
 use Rattle.transfers.specs.Known.{SoundState}
@@ -48,7 +48,7 @@ module _ {c : Card} {g s t : List ℤ} (f : Flowing c g s t) where
     new_is = height_read f.tide i j k.column k.row (zero-add _)
 
     pub tide_height : (read_state c t).height i j ≡ new_height c (read_state c s) i j
-    tide_height = sym (Places·height-read c t i j) ∙ new_is
+    tide_height = sym (places_height_read c t i j) ∙ new_is
 
   -- at a face: what crossed it
   module _ {i j : ℕ} where

@@ -2,7 +2,7 @@
 #![tactic(auto)]
 
 ghost use Rattle.std.specs.Prelude.{◌≡◌, true, ◌&&◌, ◌≤◌, eqb};
-ghost use Rattle.rules.specs.Site.{within, card_fits, cells as Site·cells, state_length};
+ghost use Rattle.rules.specs.Site.{within, card_fits, cells as site_cells, state_length};
 
 use rules::Card;
 
@@ -27,7 +27,7 @@ pub fn card_fits(card: Card) -> bool
 // How many cells a site has.
 pub fn cells(card: Card) -> usize
     requires { card_fits card ≡ true }
-    ensures { (result ≡ Site·cells card) × (result ≤ 16384) }
+    ensures { (result ≡ site_cells card) × (result ≤ 16384) }
 {
     let columns = card.columns as usize;
     let rows = card.rows as usize;

@@ -2,7 +2,7 @@
 #![tactic(auto)]
 
 ghost use Rattle.std.specs.Prelude.{◌≡◌, ◌<◌, ◌≤◌, pos};
-ghost use Rattle.rules.specs.Search.{cell_along, listed as Search·listed};
+ghost use Rattle.rules.specs.Search.{cell_along, listed as search_listed};
 ghost use Rattle.chamber.specs.OnSite.{OnSite, Wet, cell_place, DeepEnough};
 
 use rules::{Card, Window};
@@ -43,7 +43,7 @@ fn deep_enough(height: u32, depth: u32) -> bool
 // Whether it is inside the window, and its cell's kept height at least the depth asked.
 pub fn listed(card: Card, state: &[i32], window: Window, depth: i32, x: i64, y: i64) -> bool
     requires { Wet card state.now depth x y }
-    ensures { result ≡ Search·listed card state.now window depth x y }
+    ensures { result ≡ search_listed card state.now window depth x y }
 {
     if window::inside(window, x, y) {
         let at = cell_place(card, x, y);

@@ -33,8 +33,8 @@ module _ {c : Card} {g s ps copy t d n : List ℤ} (p : PumpedDrafting c g s ps 
     pub front_long : length (take (length n) (copied ++ rest)) ≡ length n
     front_long = ap length front_is ∙ state_long
 
-    pub pumped-room : {found : List ℤ} → length found ≡ 64 → PumpedRoom c g (take (length n) (copied ++ rest)) ps found (take (length n) t) (take (length n) d)
-    pumped-room long =
+    pub pumped_room : {found : List ℤ} → length found ≡ 64 → PumpedRoom c g (take (length n) (copied ++ rest)) ps found (take (length n) t) (take (length n) d)
+    pumped_room long =
         let site = p.drafting.site in
         record {
           sound = subst (λ (x : List ℤ). Sound c g x) (sym front_is) site.sound;

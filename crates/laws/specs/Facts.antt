@@ -9,7 +9,7 @@ use Rattle.rules.specs.Grid.{all}
 use Rattle.rules.specs.Site.{within, sizes_fit, sides_fit, times_fit, card_fits, state_length, lengths_fit, read_ground, read_state, ground_fits, height_fits, speed_fits, grounds_fit, heights_fit, velocities_fit, walls_still, values_fit, check_also, check}
 use Rattle.laws.specs.Tests.{and_left, and_right, three_of, four_of, to_T, true_of}
 use Rattle.laws.specs.Grids.{all_at_lem}
-use Rattle.laws.specs.Values.{grounds-flat, depths_flat, faces_flat}
+use Rattle.laws.specs.Values.{grounds_flat, depths_flat, faces_flat}
 use Rattle.laws.specs.Checks.{Passed, apart, together, after_card}
 
 -- ---- the card
@@ -151,7 +151,7 @@ sound_facts c g s sound =
     let w = read_state c s in
     let lengths = length_facts c g s sound.lengths in
     let t = four_of (grounds_fit c (read_ground c g)) (heights_fit c w) (velocities_fit c w) (walls_still c w) (to_T sound.values) in
-    let grounds : T (all cells (λ k. ground_fits (get_or g k (pos 0)))) = subst T (grounds-flat c g) t.one in
+    let grounds : T (all cells (λ k. ground_fits (get_or g k (pos 0)))) = subst T (grounds_flat c g) t.one in
     let heights : T (all cells (λ k. height_fits (get_or s k (pos 0)))) = subst T (depths_flat c s) t.two in
     let speeds : T (all faces (λ k. speed_fits (get_or s (cells + k) (pos 0)))) = subst T (faces_flat c s) t.three in
     let land : (k : ℕ) → nat_abs (get_or g k (pos 0)) ≤ 50000000 =

@@ -22,7 +22,7 @@ flat m n p = both_ways (all_at m n (λ i j. p (j * m + i))) (all (n * m) p) to f
     from t = all_at_intro m n (λ i j. p (j * m + i)) (λ i j hi hj. all_at_lem (n * m) p t (j * m + i) (digits_lt hj hi))
 
 -- two parts, one behind the other
-pub all-add : (a b : ℕ) (p : ℕ → Bool) → all (a + b) p ≡ (all a p && all b (λ k. p (a + k)))
+pub all_add : (a b : ℕ) (p : ℕ → Bool) → all (a + b) p ≡ (all a p && all b (λ k. p (a + k)))
 unfolding all
-all-add a zero p = rw add-zero (sym (and-true (all a p)))
-all-add a (suc b) p = rw add-suc (ap (λ (x : Bool). x && p (a + b)) (all-add a b p) ∙ and_assoc (all a p) (all b (λ k. p (a + k))) (p (a + b)))
+all_add a zero p = rw add-zero (sym (and-true (all a p)))
+all_add a (suc b) p = rw add-suc (ap (λ (x : Bool). x && p (a + b)) (all_add a b p) ∙ and_assoc (all a p) (all b (λ k. p (a + k))) (p (a + b)))

@@ -6,11 +6,11 @@ use Rattle.rules.specs.Grid.{all}
 use Rattle.rules.specs.Site.{cells, state_length, read_ground, read_state, ground_fits, height_fits, speed_fits, is_zero, grounds_fit, heights_fit, velocities_fit, walls_still, values_fit}
 use Rattle.laws.specs.Between.{between, size_between}
 use Rattle.laws.specs.Grids.{all_same}
-use Rattle.laws.specs.Flat.{flat, all-add}
+use Rattle.laws.specs.Flat.{flat, all_add}
 
-pub grounds-flat : (c : Card) (g : List ℤ) → grounds_fit c (read_ground c g) ≡ all (c.rows * c.columns) (λ k. ground_fits (get_or g k (pos 0)))
+pub grounds_flat : (c : Card) (g : List ℤ) → grounds_fit c (read_ground c g) ≡ all (c.rows * c.columns) (λ k. ground_fits (get_or g k (pos 0)))
 unfolding grounds_fit read_ground
-grounds-flat c g = flat c.columns c.rows (λ k. ground_fits (get_or g k (pos 0)))
+grounds_flat c g = flat c.columns c.rows (λ k. ground_fits (get_or g k (pos 0)))
 
 pub depths_flat : (c : Card) (s : List ℤ) → heights_fit c (read_state c s) ≡ all (c.rows * c.columns) (λ k. height_fits (get_or s k (pos 0)))
 unfolding heights_fit read_state
@@ -24,7 +24,7 @@ faces_flat c s =
     let east = c.rows * suc c.columns in
     let fits : ℕ → Bool = λ k. speed_fits (get_or s (c.rows * c.columns + k) (pos 0)) in
     ap₂ ◌&&◌ (flat (suc c.columns) c.rows fits) (flat c.columns (suc c.rows) (λ k. fits (east + k)))
-    ∙ sym (all-add east (suc c.rows * c.columns) fits)
+    ∙ sym (all_add east (suc c.rows * c.columns) fits)
 
 -- ---- all four tests of the values as the code makes them: three bands of words, each between two ends, and the walls
 
@@ -47,7 +47,7 @@ pub values_joined : (c : Card) (g s : List ℤ) {grounds depths speeds walls : B
     → (grounds && depths && speeds && walls) ≡ values_fit c (read_ground c g) (read_state c s)
 unfolding values_fit
 values_joined c g s {speeds = v} p q r w =
-    let e₁ = p ∙ agree (cells c) 0 g _ _ (size_between 49999999) ∙ from_0 (cells c) g ground_fits ∙ sym (grounds-flat c g) in
+    let e₁ = p ∙ agree (cells c) 0 g _ _ (size_between 49999999) ∙ from_0 (cells c) g ground_fits ∙ sym (grounds_flat c g) in
     let e₂ = q ∙ from_0 (cells c) s height_fits ∙ sym (depths_flat c s) in
     let e₃ : v ≡ velocities_fit c (read_state c s) = r ∙ rw (faces c) (agree _ (cells c) s _ _ (size_between 19999999) ∙ sym (faces_flat c s)) in
     cc (e₁, e₂, e₃, w)

@@ -2,7 +2,7 @@
 #![tactic(auto)]
 
 ghost use Rattle.std.specs.Prelude.{◌≡◌, ◌+◌, ◌*◌, ◌≤◌, ◌<◌, pos, length, get_or, set, replicate};
-ghost use Rattle.rules.specs.Grid.{max_z, greatest as Grid·greatest};
+ghost use Rattle.rules.specs.Grid.{max_z, greatest as grid_greatest};
 ghost use Rattle.lists.specs.Renewed.{renewed};
 
 // A list as long as the longest state, of 128 by 128 cells.
@@ -84,7 +84,7 @@ fn larger(a: i32, b: i32) -> i32
 // The greatest of 0 and the first n words.
 pub fn greatest(s: &[i32], n: usize) -> i32
     requires { n ≤ length s.now }
-    ensures { result ≡ Grid·greatest n (λ k. get_or s.now k (pos 0)) }
+    ensures { result ≡ grid_greatest n (λ k. get_or s.now k (pos 0)) }
 {
     let mut top = 0i32;
     for i in 0..n {

@@ -3,11 +3,11 @@
 
 ghost use Rattle.std.specs.Prelude.{◌≡◌, true, length};
 ghost use Rattle.rules.specs.Site.{first_refusal};
-ghost use Rattle.pins_rules.specs.Calls.{unless as Calls·unless, crew_number, chamber_number, add_number, remove_number};
+ghost use Rattle.pins_rules.specs.Calls.{unless as calls_unless, crew_number, chamber_number, add_number, remove_number};
 
 // A refusal's number, unless its test passes.
 fn unless(passes: bool, number: u32) -> u32
-    ensures { result ≡ Calls·unless passes number }
+    ensures { result ≡ calls_unless passes number }
 {
     if passes {
         return 0;

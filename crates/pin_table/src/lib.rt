@@ -2,7 +2,7 @@
 #![tactic(auto)]
 
 ghost use Rattle.std.specs.Prelude.{◌≡◌, ◌≤◌, ◌<◌, length, replicate};
-ghost use Rattle.pins_rules.specs.Table.{pin as Table·pin, crew_of, chamber_of, is_crew, is_chamber, word_fits, stands as Table·stands, words_fit, each_once, held as Table·held, table_fits, first_changed};
+ghost use Rattle.pins_rules.specs.Table.{pin as table_pin, crew_of, chamber_of, is_crew, is_chamber, word_fits, stands as table_stands, words_fit, each_once, held as table_held, table_fits, first_changed};
 ghost use Rattle.pins_laws.specs.FirstPlace.{FirstPlace};
 ghost use Rattle.pins_laws.specs.Marks.{Markable, MarkedBy, Unmarked};
 
@@ -11,7 +11,7 @@ ghost use Rattle.pins_laws.specs.Marks.{Markable, MarkedBy, Unmarked};
 // A crew's pin on a chamber, as a word.
 pub fn pin(crew: u32, chamber: u32) -> u32
     requires { (crew ≤ 2) × (chamber < 1000) }
-    ensures { result ≡ Table·pin crew chamber }
+    ensures { result ≡ table_pin crew chamber }
 {
     crew * 65536 + chamber
 }
@@ -53,7 +53,7 @@ fn word_fits(word: u32) -> bool
 
 // Whether a word stands among these.
 pub fn stands(words: &[u32], word: u32) -> bool
-    ensures { result ≡ Table·stands word words.now }
+    ensures { result ≡ table_stands word words.now }
 {
     let mut found = false;
     for k in 0..words.len() {
@@ -75,7 +75,7 @@ fn words_fit(table: &[u32]) -> bool
 // How many pins a crew has.
 pub fn held(table: &[u32], crew: u32) -> u32
     requires { length table.now ≤ 64 }
-    ensures { result ≡ Table·held crew table.now }
+    ensures { result ≡ table_held crew table.now }
 {
     let mut n: u32 = 0;
     for k in 0..table.len() {

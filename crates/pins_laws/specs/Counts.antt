@@ -11,7 +11,7 @@ use borrow.Author.Tests.{eq-eqb, ne_eqb, lt-ltb, eqb-true, eqb-false}
 use Rattle.laws.specs.Tests.{false_of, or_right}
 use Rattle.rules.specs.Search.{places}
 use Rattle.laws.specs.PutIn.{places_same, one_more_place}
-use Rattle.laws.specs.Rising.{places-empty}
+use Rattle.laws.specs.Rising.{places_empty}
 use Rattle.pins_rules.specs.Table.{pin, crew_of, pinned, stands, held, pins_of, words_fit, each_once}
 use Rattle.pins_laws.specs.Words.{Crew, by_crew, Fitting, none, one, first_fits, rest_fits, crew_of_pin, pin_not_free, same_chamber}
 use Rattle.pins_laws.specs.Once.{first_once, rest_once}
@@ -41,10 +41,10 @@ all_of_three (w ∷ rest) t =
     omega arith
 
 -- crew 0's words are free places
-free-stands : (table : List ℕ) → T (words_fit table) → 0 < held 0 table → T (stands 0 table)
+free_stands : (table : List ℕ) → T (words_fit table) → 0 < held 0 table → T (stands 0 table)
 unfolding held words_fit stands
-free-stands [] t h = absurd (omega arith)
-free-stands (w ∷ rest) t h = go w (first_fits w rest t) h (free-stands rest (rest_fits w rest t))
+free_stands [] t h = absurd (omega arith)
+free_stands (w ∷ rest) t h = go w (first_fits w rest t) h (free_stands rest (rest_fits w rest t))
   where
     go : (w : ℕ) → Fitting w → 0 < of_crew 0 w + held 0 rest → (0 < held 0 rest → T (stands 0 rest)) → T (eqb w 0 || stands 0 rest)
     go w none h later = tt
@@ -53,14 +53,14 @@ free-stands (w ∷ rest) t h = go w (first_fits w rest t) h (free-stands rest (r
         or_right (eqb (pin crew chamber) 0) (stands 0 rest) (later (omega arith))
 
 pub some_place_free : (table : List ℕ) → T (words_fit table) → held 1 table + held 2 table < length table → T (stands 0 table)
-some_place_free table t h = free-stands table t (omega (arith, all_of_three table t))
+some_place_free table t h = free_stands table t (omega (arith, all_of_three table t))
 
 -- ---- a crew's listing
 
 module _ (crew : ℕ) where
   pub nothing_listed : pins_of [] crew ≡ []
   unfolding pins_of pinned stands
-  nothing_listed = places-empty (pinned [] crew) 1000 (λ j h. refl)
+  nothing_listed = places_empty (pinned [] crew) 1000 (λ j h. refl)
 
   -- a word before a table that is not this crew's
   pub other_listed : (w : ℕ) (rest : List ℕ) → (crew_of w ≡ crew → ⊥) → pins_of (w ∷ rest) crew ≡ pins_of rest crew

@@ -32,9 +32,9 @@ module _ (l : List ℕ) where
   printed_refused n = sym (if_refused (play_number l) (played l) (refused_line (play_number l)) n)
 
   module _ (z : play_number l ≡ 0) where
-    pub printed-played : played l ≡ printed l
+    pub printed_played : played l ≡ printed l
     unfolding printed
-    printed-played = sym (if_done_lem (play_number l) (played l) (refused_line (play_number l)) z)
+    printed_played = sym (if_done_lem (play_number l) (played l) (refused_line (play_number l)) z)
 
     -- ---- a sheet that is run: the reader's number is 0, and it is small
 
@@ -84,10 +84,10 @@ module _ (l : List ℕ) where
       state_read = if_done_lem (read_number l (length g) (length s)) (state_in l) s zero
 
   -- and run without pumps, with a scratch list as long as the state
-  pub played-run : (c : Card) (g s scratch : List ℤ) → c ≡ card_in l → g ≡ ground_in l → s ≡ state_in l → length scratch ≡ state_length (card_in l)
+  pub played_run : (c : Card) (g s scratch : List ℤ) → c ≡ card_in l → g ≡ ground_in l → s ≡ state_in l → length scratch ≡ state_length (card_in l)
       → played_text c (progressed (run_outcome c g s [] scratch)) ≡ played l
   unfolding played run_outcome run pumped_run_after reported
-  played-run c g s scratch p q r e =
+  played_run c g s scratch p q r e =
       let long : length scratch ≡ length s = e ∙ sym (length_state_in l) ∙ ap length (sym r) in
       let same : check_pumped_with c g s [] (length scratch) ≡ check c g s = ap (check_pumped_with c g s []) long ∙ check_own c g s [] ∙ none_checked c g s in
       ap₂ (λ (k : ℕ) (step : Stepping). played_text c (run_after k step c.steps s)) same (no_pumps new_velocity c g) ∙ cc

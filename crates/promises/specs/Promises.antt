@@ -29,7 +29,7 @@ pub use Rattle.promises.specs.Sheets.{written_reads, read_is_sheet, one_site, on
 pub use Rattle.promises.specs.RoundTrips.{write_then_read_lem, not_written, read_then_write_lem, not_read}
 -- the search's list is sound, complete and rising, and as long as lent; at 8 the count is the count needed; every chamber is compared exactly;
 -- a window turned over lists nothing; -0.0 is 0
-pub use Rattle.promises.specs.Searches.{finds, as_long_as_lent, count_at_8, inside_exactly, compared_exactly, lists_nothing, minus_zero-answer, minus_zero_list}
+pub use Rattle.promises.specs.Searches.{finds, as_long_as_lent, count_at_8, inside_exactly, compared_exactly, lists_nothing, minus_zero_answer, minus_zero_list}
 -- of document 02's [9], a face that counts only in the cell that its velocity points out of, in calls that are lent no pumps: a step which document 01's own limit
 -- accepted is accepted with the same next state, a run which it did not stop is the same run, no answer but 4 changed, nor any number but 4, whatever rule gives
 -- the new velocities; and, on numbers, what that limit accepted and refused
@@ -39,7 +39,7 @@ pub use Rattle.promises.specs.NothingLost.{step_stays, run_stays, number_stays_b
 pub use Rattle.promises.specs.NoNegativeShare.{no_negative_share, number_without_6, run_without_6, answer_without_6, step_never_6, run_never_6}
 -- of document 02's [8], that no water is made and none is lost: the sum of all heights after a step without pumps, and after such a run whatever its reason, is that
 -- before; so of the public calls; and how great it can be
-pub use Rattle.promises.specs.WaterKept.{next-sum_by, next-sum, run-sum, sum_of_the_step, sum_of_the_run, sum_fits}
+pub use Rattle.promises.specs.WaterKept.{next_sum_by, next_sum, run_sum, sum_of_the_step, sum_of_the_run, sum_fits}
 -- and that what is carried stays between what came: the balance of each inner face; the bounds of the carried part of its new velocity, and that this velocity is
 -- that part less the slope, or 0 without water and on a dry bank; who does not count, walls, and what lies beyond them; and, on numbers, bounds that are met
 pub use Rattle.promises.specs.WhatCame.{balance, carried_between, slope_put_back, brought_nothing, walls_are_0, no_flow_beyond, bounds_on_numbers}
@@ -53,7 +53,7 @@ pub use Rattle.promises.specs.Pond.{pond_on_numbers}
 -- input, refused ones too
 pub use Rattle.promises.specs.BothEngines.{leaves_no_rest, one_rule, banks_in_both, carries_over, same_answer, same_next, engines_agree}
 -- of document 02's [10], pumps: end sum plus taken equals start sum plus added, of a step by either engine, of every run, and of the public calls
-pub use Rattle.promises.specs.WaterKept.{pumped-sum, run_balances, step_call_balances, run_call_balances}
+pub use Rattle.promises.specs.WaterKept.{pumped_sum, run_balances, step_call_balances, run_call_balances}
 -- and with an empty list the pumped step, the checks and the run are those without pumps, for every input: so [2]'s still water and [8]'s sum hold for it
 pub use Rattle.promises.specs.NoPumps.{no_pumps_step, no_pumps_check, no_pumps_check_with, no_pumps_run}
 -- of document 02's [1], staff readings: a height differs from its product by at most half a micrometre, is never below it by that, and is one that every other call

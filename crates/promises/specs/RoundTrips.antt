@@ -107,15 +107,15 @@ module _ (c : Card) (g s : List ℤ) (bytes : List ℕ) (w : Wrote) (o : List �
   abbrev again : ℕ
   again = site_back_number c g s (length bytes) (length land) (length state)
 
-  number-written : w.number ≡ write_number c g s (length bytes)
+  number_written : w.number ≡ write_number c g s (length bytes)
   unfolding write_answer
-  number-written = ap (λ (x : Wrote). x.number) q.answer
+  number_written = ap (λ (x : Wrote). x.number) q.answer
 
   -- a refused site is not read
   pub not_written : (k : Card) → k ≡ no_card → (w.number ≡ 0 → ⊥) → SiteBack c g s bytes land state (record { number = w.number; card = k }) o land state
   unfolding site_back_number
   not_written k p n =
-      let e : again ≡ w.number = first_refused _ _ (λ z. n (number-written ∙ z)) ∙ sym number-written in
+      let e : again ≡ w.number = first_refused _ _ (λ z. n (number_written ∙ z)) ∙ sym number_written in
       let e₀ : again ≡ 0 → ⊥ = λ z. n (sym e ∙ z) in
       record {
         answer = λ i. record { number = sym e i; card = (p ∙ sym (if_refused again c no_card e₀)) i };
@@ -126,7 +126,7 @@ module _ (c : Card) (g s : List ℤ) (bytes : List ℕ) (w : Wrote) (o : List �
 
   module _ (z : w.number ≡ 0) where
     wrote : write_number c g s (length bytes) ≡ 0
-    wrote = sym number-written ∙ z
+    wrote = sym number_written ∙ z
 
     checked : check c g s ≡ 0
     unfolding write_number

@@ -23,7 +23,7 @@ use Rattle.laws.specs.Outcomes.{both_passed, if_done_lem}
 use Rattle.laws.specs.Sheets.{passed}
 use Rattle.laws.specs.Along.{along_whole, along_high, all_along_lem, reach_high}
 use Rattle.laws.specs.Asked.{asked_facts, places_passed, number_passed}
-use Rattle.laws.specs.Rising.{rising, sound, complete, places-empty}
+use Rattle.laws.specs.Rising.{rising, sound, complete, places_empty}
 use Rattle.laws.specs.Floats.{Alike, alike, zero_alike}
 use Rattle.promises.specs.Refused.{search_refused}
 use Rattle.promises.specs.Edges.{at_most, at_least, low_exact, high_exact, none_in_order}
@@ -194,7 +194,7 @@ module _ (c : Card) (g s xs ys : List ℤ) (w : Window) (depth : ℤ) where
 
   none_listed : search_check c g s xs ys w depth ≡ 0 → TurnedOver w → the_list ≡ []
   unfolding list_of listed
-  none_listed e over = places-empty is_listed (length xs) (λ k h. rw (outside w (get_or xs k (pos 0)) (get_or ys k (pos 0)) (inside_is e k h) over))
+  none_listed e over = places_empty is_listed (length xs) (λ k h. rw (outside w (get_or xs k (pos 0)) (get_or ys k (pos 0)) (inside_is e k h) over))
 
   -- so the call is done whatever room it is lent, with the count 0, and leaves the list as lent
   pub record ListsNothing (lent : List ℕ) : Type 0 where
@@ -268,9 +268,9 @@ module _ {w v : Window} (m : SameWindow w v) where
       unfolding search_number
       same_number = rw (same_check, same_places)
 
-      pub minus_zero-answer : search_answer c g s xs ys w depth lent ≡ search_answer c g s xs ys v depth lent
+      pub minus_zero_answer : search_answer c g s xs ys w depth lent ≡ search_answer c g s xs ys v depth lent
       unfolding search_answer
-      minus_zero-answer = rw (same_number, same_places)
+      minus_zero_answer = rw (same_number, same_places)
 
       pub minus_zero_list : search_found c g s xs ys w depth lent ≡ search_found c g s xs ys v depth lent
       unfolding search_found

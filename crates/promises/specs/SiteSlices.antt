@@ -12,7 +12,7 @@ use Rattle.laws.specs.Follows.{Follows, Always, follows, mapped}
 use Rattle.laws.specs.PumpChecks.{checked}
 use Rattle.laws.specs.Counting.{Counted, uncounted, told, counting}
 use Rattle.laws.specs.PumpedSteps.{pumped-run}
-use Rattle.promises.specs.StepsWanted.{wanting, same_pumped_step, same_pumped-check}
+use Rattle.promises.specs.StepsWanted.{wanting, same_pumped_step, same_pumped_check}
 use Rattle.promises.specs.NeverInTheMiddle.{ends}
 use Rattle.promises.specs.Slices.{both_progresses, both_runs, joined_after, joined, in_slices}
 
@@ -86,8 +86,8 @@ module _ (c : Card) (g s ps : List ℤ) (m n : ℕ) where
       let most : m + n ≤ 10000 = (sound_facts (wanting c (m + n)) g s (checked (wanting c (m + n)) g s ps e).sound).card.steps_high in
       let second : List ℤ → PumpedOutcome = λ v. pumped_run (wanting c n) g v ps in
       let first = pumped_run (wanting c m) g s ps in
-      let passes : check_pumped (wanting c m) g s ps ≡ 0 = same_pumped-check c (m + n) m g s ps e (omega arith) in
-      let still : check_pumped (wanting c n) g first.state ps ≡ 0 = same_pumped-check c m n g first.state ps (ends (wanting c m) g s ps passes).passes (omega arith) in
+      let passes : check_pumped (wanting c m) g s ps ≡ 0 = same_pumped_check c (m + n) m g s ps e (omega arith) in
+      let still : check_pumped (wanting c n) g first.state ps ≡ 0 = same_pumped_check c m n g first.state ps (ends (wanting c m) g s ps passes).passes (omega arith) in
       let p = as_part m s passes in
       as_part (m + n) s e
       ∙ ap told (in_slices (counting ps step) m n (uncounted s))

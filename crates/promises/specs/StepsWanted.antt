@@ -36,9 +36,9 @@ module _ (c : Card) (a b : ℕ) (g s : List ℤ) where
         values = p.values;
       })
 
-  pub same_pumped-check : (ps : List ℤ) → check_pumped (wanting c a) g s ps ≡ 0 → b ≤ 10000 → check_pumped (wanting c b) g s ps ≡ 0
+  pub same_pumped_check : (ps : List ℤ) → check_pumped (wanting c a) g s ps ≡ 0 → b ≤ 10000 → check_pumped (wanting c b) g s ps ≡ 0
   unfolding pumps_fit pump_fits
-  same_pumped-check ps e h =
+  same_pumped_check ps e h =
       let p = checked (wanting c a) g s ps e in
       to_checked (wanting c b) g s ps (record {
         sound = check_sound (wanting c b) g s (same_check (sound_check (wanting c a) g s p.sound) h);

@@ -33,20 +33,20 @@ use Rattle.promises.specs.TheCall.{call_leaves}
 -- ---- The step, by any rule for the new velocities, and then by the one that the calls have
 
 module _ (c : Card) (g s : List ℤ) where
-  pub next-sum_by : (rule : Rule) → sum_of_heights c (next_state_by rule c g s) ≡ sum_of_heights c s
+  pub next_sum_by : (rule : Rule) → sum_of_heights c (next_state_by rule c g s) ≡ sum_of_heights c s
   unfolding sum_of_heights next_state_by next
-  next-sum_by rule =
+  next_sum_by rule =
       let n = next rule c (read_ground c g) (read_state c s) in
       sum_at_same c.columns c.rows _ n.height (height_back c n) ∙ sum_kept c (read_state c s)
 
-  pub next-sum : sum_of_heights c (next_state c g s) ≡ sum_of_heights c s
-  next-sum = next-sum_by new_velocity
+  pub next_sum : sum_of_heights c (next_state c g s) ≡ sum_of_heights c s
+  next_sum = next_sum_by new_velocity
 
 -- ---- The pumped step, of a site whose pumps pass
 
 module _ (rule : Rule) (c : Card) (g s ps : List ℤ) (pass : PumpsPass c ps) (long : cells c ≤ length s) where
-  pub pumped-sum : sum_of_heights c ((pumped_step_by rule c g ps).next s) +ℤ pos (taken_by ps s) ≡ sum_of_heights c s +ℤ pos (added_by ps)
-  pumped-sum = rw (next-sum_by c g (pumped ps s) rule) (sum-pumped c ps pass.fit s long)
+  pub pumped_sum : sum_of_heights c ((pumped_step_by rule c g ps).next s) +ℤ pos (taken_by ps s) ≡ sum_of_heights c s +ℤ pos (added_by ps)
+  pumped_sum = rw (next_sum_by c g (pumped ps s) rule) (sum-pumped c ps pass.fit s long)
 
 -- ---- The run
 
@@ -62,7 +62,7 @@ module _ (c : Card) (g s ps : List ℤ) where
       sound = keeps_pumped new_velocity c g ps pass x.state w.sound e;
       balanced =
           balanced_on (sum_of_heights c ((pumped_step c g ps).next x.state)) (sum_of_heights c x.state) (sum_of_heights c s) x.added (added_by ps) x.taken (taken_by ps x.state)
-          (pumped-sum new_velocity c g x.state ps pass (sound_facts c g x.state w.sound).lengths.heights) w.balanced;
+          (pumped_sum new_velocity c g x.state ps pass (sound_facts c g x.state w.sound).lengths.heights) w.balanced;
     };
     numbers = λ x. tt;
     done = tt;
@@ -91,7 +91,7 @@ module _ (c : Card) (g s ps : List ℤ) where
   step_call_balances rule lent e =
       let p = checked_with c g s ps lent (both_passed _ _ e).0 in
       rw (if_done_lem (step_answer_by rule c g s ps lent) ((pumped_step_by rule c g ps).next s) lent e)
-      (pumped-sum rule c g s ps p.pumps (sound_facts c g s p.site.sound).lengths.heights)
+      (pumped_sum rule c g s ps p.pumps (sound_facts c g s p.site.sound).lengths.heights)
 
   pub run_call_balances : (scratch : List ℤ)
       → sum_of_heights c (run_state c g s ps scratch) +ℤ pos (run_tally c g s ps scratch).taken ≡ sum_of_heights c s +ℤ pos (run_tally c g s ps scratch).added
@@ -107,16 +107,16 @@ module _ (c : Card) (g s : List ℤ) where
   kept_after zero = (ends_as keeps_own c.steps s refl).passes
     where
       keeps_own : Proper (site_step c g) (λ s'. sum_of_heights c s' ≡ sum_of_heights c s) (λ k. Unit {0})
-      keeps_own = record { kept = λ s' e k. next-sum c g s' ∙ e; numbers = λ s'. tt; done = tt }
+      keeps_own = record { kept = λ s' e k. next_sum c g s' ∙ e; numbers = λ s'. tt; done = tt }
   kept_after (suc k) = refl
 
-  pub run-sum : sum_of_heights c (run c g s).state ≡ sum_of_heights c s
+  pub run_sum : sum_of_heights c (run c g s).state ≡ sum_of_heights c s
   unfolding run
-  run-sum = kept_after (check c g s)
+  run_sum = kept_after (check c g s)
 
   pub sum_of_the_step : (lent : List ℤ) → step_answer c g s [] lent ≡ 0 → sum_of_heights c (step_next c g s [] lent) ≡ sum_of_heights c s
   unfolding pumped after_pumps
-  sum_of_the_step lent e = rw (call_leaves c g s [] lent e) (next-sum c g s)
+  sum_of_the_step lent e = rw (call_leaves c g s [] lent e) (next_sum c g s)
 
   pub sum_of_the_run : (scratch : List ℤ) → sum_of_heights c (run_state c g s [] scratch) ≡ sum_of_heights c s
   unfolding run_state run_outcome

@@ -1,10 +1,10 @@
 // A word that is a key, in any letter case.
 ghost use Rattle.std.specs.Prelude.{◌≡◌};
-ghost use Rattle.rules.specs.Raster.{lower as Raster·lower, is_key};
+ghost use Rattle.rules.specs.Raster.{lower as raster_lower, is_key};
 
 // A capital letter as a small one, any other byte as it is.
 fn lower(b: u8) -> u8
-    ensures { result ≡ Raster·lower b }
+    ensures { result ≡ raster_lower b }
 {
     if (65 <= b) & (b <= 90) {
         return b + 32;

@@ -7,7 +7,6 @@ use Rattle.std.proofs.Math.Nat.{pow-succ', pow-le-pow_right}
 use Rattle.std.proofs.Math.ListN.{drop}
 use Rattle.std.proofs.Math.Seq.{drop-cons}
 use Rattle.std.proofs.Math.Dec.{eqb-suc-suc}
-use Rattle.rules.specs.Site.{within}
 use Rattle.rules.specs.Raster.{is_digit, digits_front, digits_rest, all_digits, number_behind, number_of}
 use Rattle.laws.specs.Tests.{and_left, and_right, to_T, true_of}
 

@@ -16,7 +16,7 @@ use Rattle.rules.specs.Calls.{write_raster_answer, write_raster_text}
 use Rattle.rules.specs.PublicContracts.{WriteRasterContract}
 use Rattle.laws.specs.Tests.{to_T, and_left}
 use Rattle.laws.specs.Grids.{all_at_lem, all_same}
-use Rattle.laws.specs.Values.{grounds-flat}
+use Rattle.laws.specs.Values.{grounds_flat}
 use Rattle.laws.specs.Between.{between, size_between}
 use Rattle.laws.specs.Checks.{apart}
 use Rattle.laws.specs.Outcomes.{first_refused, first_passed, if_done_lem, if_refused}
@@ -30,7 +30,7 @@ pub grounds_are : (c : Card) (g : List ℤ) → all (cells c) (λ k. between (ne
 grounds_are c g =
     all_same (cells c) (λ k. ground_fits (get_or g k (pos 0))) (λ k. between (negsuc 49999999) (pos 50000000) (get_or g (0 + k) (pos 0)))
     (λ k h. ap (λ (i : ℕ). between (negsuc 49999999) (pos 50000000) (get_or g i (pos 0))) (zero-add k) ∙ size_between 49999999 (get_or g k (pos 0)))
-    ∙ sym (grounds-flat c g)
+    ∙ sym (grounds_flat c g)
 
 module _ (c : Card) (g : List ℤ) where
   abbrev three : ℕ
@@ -45,7 +45,7 @@ module _ (c : Card) (g : List ℤ) where
         long = eqb→eq (length g) (cells c) (and_left (eqb (length g) (cells c)) (eqb c.dx c.dy) (to_T p.lengths));
         small = λ k h.
             leb→le (nat_abs (get_or g k (pos 0))) 50000000
-            (all_at_lem (cells c) (λ k. ground_fits (get_or g k (pos 0))) (to_T (sym (grounds-flat c g) ∙ p.values)) k h);
+            (all_at_lem (cells c) (λ k. ground_fits (get_or g k (pos 0))) (to_T (sym (grounds_flat c g) ∙ p.values)) k h);
       }
 
   -- ---- The whole text, as it is laid

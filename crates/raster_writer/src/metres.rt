@@ -1,7 +1,7 @@
 // Micrometres as metres with six places, laid into a list from `at` on, and how long that is.
 ghost use Rattle.std.specs.Prelude.{◌≡◌, ◌∷◌, ◌+◌, ◌≤◌, ◌<◌, nat_abs, length};
 ghost use Rattle.rules.specs.Text.{decimal};
-ghost use Rattle.rules.specs.Raster.{six_places, metres as Raster·metres, signed_metres};
+ghost use Rattle.rules.specs.Raster.{six_places, metres as raster_metres, signed_metres};
 ghost use Rattle.laws.specs.Laid.{laid};
 ghost use Rattle.print.specs.Appended.{Appended};
 ghost use Rattle.raster_writer.specs.Lines.{minus_text};
@@ -9,7 +9,7 @@ ghost use Rattle.raster_writer.specs.Lines.{minus_text};
 // How long a size is.
 fn metres_size(n: u32) -> usize
     requires { n < 100000000 }
-    ensures { result ≡ length (Raster·metres n) }
+    ensures { result ≡ length (raster_metres n) }
 {
     if n < 10000000 {
         return 8;
@@ -59,8 +59,8 @@ fn put_places(n: u32, out: &mut [u8], at: usize)
 
 // A size.
 pub fn put_metres(n: u32, out: &mut [u8], at: usize) -> usize
-    requires { (n < 100000000) × (at + length (Raster·metres n) ≤ length out.old) }
-    ensures { Appended (Raster·metres n) at result out.old out.new }
+    requires { (n < 100000000) × (at + length (raster_metres n) ≤ length out.old) }
+    ensures { Appended (raster_metres n) at result out.old out.new }
 {
     let point = put_whole(n / 1000000, out, at);
     put_places(n, out, point);

@@ -16,7 +16,7 @@ use Rattle.laws.specs.Facts.{sound_facts}
 use Rattle.laws.specs.Outcomes.{if_done_lem, if_refused}
 use Rattle.laws.specs.PumpChecks.{SoundPumpedWith, to_checked_with}
 use Rattle.laws.specs.PumpedSteps.{pumped-run, pumped_refused}
-use Rattle.steps.specs.Running.{RunRoom, told·run, Ended}
+use Rattle.steps.specs.Running.{RunRoom, told_run, Ended}
 use Rattle.run.specs.Roomy.{Roomy}
 
 -- no state is longer than the longest
@@ -53,7 +53,7 @@ module _ (c : Card) (g s ps x : List ℤ) where
       }
 
   -- else the run's outcome, and scratch all zero
-  pub ran : {t : Tally} {s' y : List ℤ} → SoundPumpedWith c g s ps x → Ended (told·run c g s ps) t s' → y ≡ replicate (length x) (pos 0) → RunContract c g s ps x t s' y
+  pub ran : {t : Tally} {s' y : List ℤ} → SoundPumpedWith c g s ps x → Ended (told_run c g s ps) t s' → y ≡ replicate (length x) (pos 0) → RunContract c g s ps x t s' y
   unfolding run_tally run_state run_scratch run_outcome
   ran lent o z =
       let e = to_checked_with c g s ps x lent in

@@ -2,7 +2,7 @@
 #![tactic(auto)]
 
 ghost use Rattle.std.specs.Prelude.{◌≡◌, true};
-ghost use Rattle.rules.specs.Site.{card_fits, lengths_fit, check_also, check as Site·check};
+ghost use Rattle.rules.specs.Site.{card_fits, lengths_fit, check_also, check as site_check};
 ghost use Rattle.laws.specs.Facts.{Sized};
 ghost use Rattle.site.specs.Front.{front_also, values_also};
 
@@ -63,7 +63,7 @@ pub fn check_also(
 
 // Nothing besides.
 pub fn check(card: Card, land: &[i32], state: &[i32]) -> u32
-    ensures { result ≡ Site·check card land.now state.now }
+    ensures { result ≡ site_check card land.now state.now }
 {
     check_also(card, land, state, true, true, true)
 }

@@ -6,7 +6,7 @@ ghost use Rattle.std.specs.Prelude.{◌≡◌, cond, T, pos};
 ghost use Rattle.std.specs.Float.{binary64};
 ghost use Rattle.std.specs.Float.Ieee.{mul, le, of_bits};
 ghost use Rattle.std.specs.Float.Ieee.Positive.{positive};
-ghost use Rattle.rules.specs.Staff.{product_fits, nearest_whole, with_height, without_height, measured as Staff·measured};
+ghost use Rattle.rules.specs.Staff.{product_fits, nearest_whole, with_height, without_height, measured as staff_measured};
 ghost use Rattle.rules.specs.PublicContracts.{StaffContract, KindContract};
 
 use rules::{Reading, Staff};
@@ -66,7 +66,7 @@ fn nearest(product: f64) -> Staff
 // The height of a value in a unit, if it is at or above 0, which a NaN is not and -0.0 is. The product of an infinity is above 50,000,000.
 fn measured(value: f64, factor: f64) -> Staff
     requires { T (positive factor) }
-    ensures { result ≡ Staff·measured value (mul binary64 value factor) }
+    ensures { result ≡ staff_measured value (mul binary64 value factor) }
 {
     if 0.0 <= value {
         return nearest(value * factor);

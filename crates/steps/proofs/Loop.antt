@@ -23,7 +23,7 @@ use Rattle.laws.specs.PumpedSteps.{keeps_pumped}
 use Rattle.lists.specs.Renewed.{renewed}
 use Rattle.pumped.specs.declared.Moved.{Moved}
 use Rattle.pumped.specs.Moved.{PumpedAdvanced}
-use Rattle.steps.specs.Running.{Ended, counted·run, told·run}
+use Rattle.steps.specs.Running.{Ended, counted_run, told_run}
 
 -- a tally and a state, as the step that counts has them
 abbrev counts : Tally → List ℤ → Counted
@@ -38,7 +38,7 @@ pub record Running (c : Card) (g s₀ ps s : List ℤ) (t : Tally) (done : ℕ) 
   pub counted : t.steps ≡ done
   pub added_low : t.added ≤ done * 64000000
   pub taken_low : t.taken ≤ done * 64000000
-  pub leads : LeadsTo (counting ps (pumped_step c g ps)) c.steps done (progress_of t) (counts t s) (counted·run c g s₀ ps)
+  pub leads : LeadsTo (counting ps (pumped_step c g ps)) c.steps done (progress_of t) (counts t s) (counted_run c g s₀ ps)
 
 pub few_steps : (c : Card) (g s : List ℤ) → Sound c g s → c.steps ≤ 10000
 few_steps c g s e = (sound_facts c g s e).card.steps_high
@@ -61,7 +61,7 @@ begins c g s ps h e p = record {
   added_low = omega arith;
   taken_low = omega arith;
   leads =
-      subst (λ (x : ℤ). LeadsTo (counting ps (pumped_step c g ps)) c.steps 0 (record { steps = 0; reason = 0; top = x }) (uncounted s) (counted·run c g s ps)) (sym p)
+      subst (λ (x : ℤ). LeadsTo (counting ps (pumped_step c g ps)) c.steps 0 (record { steps = 0; reason = 0; top = x }) (uncounted s) (counted_run c g s ps)) (sym p)
       (leads_from (counting ps (pumped_step c g ps)) c.steps (uncounted s));
 }
 
@@ -76,7 +76,7 @@ module _ {c : Card} {g s₀ ps s : List ℤ} {t : Tally} {done : ℕ} (pass : Pu
   module _ (l : done < c.steps) (moved : Moved) {after made : List ℤ} (a : PumpedAdvanced new_velocity c g ps s moved after made) where
     -- refused: the state is as it was
     pub stops : (moved.number ≡ 0 → ⊥) → (n : ℕ) → n ≡ t.steps
-        → Ended (told·run c g s₀ ps) (record { steps = n; reason = moved.number; top = t.top; added = t.added; taken = t.taken }) after
+        → Ended (told_run c g s₀ ps) (record { steps = n; reason = moved.number; top = t.top; added = t.added; taken = t.taken }) after
     unfolding stopped_for
     stops h n e =
         let o = leads_nowhere r.leads l moved.number (pos_of_ne-zero h) (sym a.number) in
@@ -107,9 +107,9 @@ module _ {c : Card} {g s₀ ps s : List ℤ} {t : Tally} {done : ℕ} (pass : Pu
           added_low = omega (arith, added_is, added_most c ps pass, r.added_low);
           taken_low = omega (arith, taken_is, taken_most c ps pass s, r.taken_low);
           leads =
-              subst (λ (x : Counted). LeadsTo (counting ps step) c.steps (done + 1) (progress_of t') x (counted·run c g s₀ ps)) (sym q)
-              (subst (λ (x : Progress). LeadsTo (counting ps step) c.steps (done + 1) x ((counting ps step).next (counts t s)) (counted·run c g s₀ ps)) (sym p) (leads_on r.leads l e));
+              subst (λ (x : Counted). LeadsTo (counting ps step) c.steps (done + 1) (progress_of t') x (counted_run c g s₀ ps)) (sym q)
+              (subst (λ (x : Progress). LeadsTo (counting ps step) c.steps (done + 1) x ((counting ps step).next (counts t s)) (counted_run c g s₀ ps)) (sym p) (leads_on r.leads l e));
         }
 
-  pub ends : c.steps ≤ done → Ended (told·run c g s₀ ps) t s
+  pub ends : c.steps ≤ done → Ended (told_run c g s₀ ps) t s
   ends l = let o = led r.leads l in record { tallied = ap (λ (x : OutcomeOf Counted). (told x).tally) o; left = ap (λ (x : OutcomeOf Counted). (told x).state) o }

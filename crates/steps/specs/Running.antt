@@ -18,11 +18,11 @@ pub record RunRoom (c : Card) (land state pumps scratch tide : List ℤ) : Type 
   pub tide_long : length tide ≡ state_length c
 
 -- the run of such a site, by the step that counts what its pumps add and take (laws, Counting.antt)
-abbrev pub counted·run : Card → (land state pumps : List ℤ) → OutcomeOf Counted
-counted·run c g s ps = run_from (counting ps (pumped_step c g ps)) c.steps (uncounted s)
+abbrev pub counted_run : Card → (land state pumps : List ℤ) → OutcomeOf Counted
+counted_run c g s ps = run_from (counting ps (pumped_step c g ps)) c.steps (uncounted s)
 
-abbrev pub told·run : Card → (land state pumps : List ℤ) → PumpedOutcome
-told·run c g s ps = told (counted·run c g s ps)
+abbrev pub told_run : Card → (land state pumps : List ℤ) → PumpedOutcome
+told_run c g s ps = told (counted_run c g s ps)
 
 -- an outcome as a tally and a state
 pub record Ended (o : PumpedOutcome) (tally : Tally) (state : List ℤ) : Type 0 where

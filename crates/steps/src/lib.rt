@@ -1,7 +1,7 @@
 // The steps of a run of a sound site: one after another, with the tally handed from step to step.
 #![tactic(auto)]
 
-ghost use Rattle.steps.specs.Running.{RunRoom, Ended, told·run};
+ghost use Rattle.steps.specs.Running.{RunRoom, Ended, told_run};
 
 use rules::{Card, Tally};
 
@@ -15,7 +15,7 @@ pub fn steps(
     tide: &mut [i32],
 ) -> Tally
     requires { RunRoom card land.now state.old pumps.now scratch.old tide.old }
-    ensures { Ended (told·run card land.now state.old pumps.now) result state.new }
+    ensures { Ended (told_run card land.now state.old pumps.now) result state.new }
 {
     let cells = card::cells(card);
     let wanted = card.steps;

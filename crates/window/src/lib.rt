@@ -4,7 +4,7 @@
 ghost use Rattle.std.specs.Prelude.{◌≡◌, T};
 ghost use Rattle.std.specs.Float.{binary64};
 ghost use Rattle.std.specs.Float.Ieee.{in_float};
-ghost use Rattle.rules.specs.Search.{is_finite, edges_finite, inside as Search·inside};
+ghost use Rattle.rules.specs.Search.{is_finite, edges_finite, inside as search_inside};
 
 use rules::Window;
 
@@ -30,7 +30,7 @@ pub fn edges_finite(window: Window) -> bool
 // the compiler makes into vectors, which takes longer.
 pub fn inside(window: Window, x: i64, y: i64) -> bool
     requires { T (in_float binary64 x) × T (in_float binary64 y) }
-    ensures { result ≡ Search·inside window x y }
+    ensures { result ≡ search_inside window x y }
 {
     let x = x as f64;
     let y = y as f64;

@@ -11,5 +11,4 @@ pub returns-then-b-lt2147483648 : goal.returns-then-b-lt2147483648
 returns-then-b-lt2147483648 c = sym (value_is c.args.b c.ranges.b.fits)
 
 pub returns : goal.returns
-returns c = let e = c in
-    to_z-of_z w32 c.less.result (record { sfits = c.less.type_inv }) ∙ c.less.ensures ∙ high_value e.args.b e.if-b-lt2147483648.false e.ranges.b.fits
+returns c = to_z-of_z w32 c.less.result (record { sfits = c.less.type_inv }) ∙ c.less.ensures ∙ high_value c.args.b c.if-b-lt2147483648.false c.ranges.b.fits

@@ -10,7 +10,8 @@ use Rattle.chamber.proofs.Cells.{place_below}
 use Rattle.chamber.proofs.cell_place.Goals as goal
 
 pub overflow_cast-y : goal.overflow_cast-y
-overflow_cast-y c = let card = c.args.card in
+overflow_cast-y c =
+    let card = c.args.card in
     let f = card_facts card c.requires.card in
     rw (to_z-of_z c.ranges.y) (along_low (card.rows * card.dy) c.args.y c.requires.y_fits, omega (arith, along_high (card.rows * card.dy) c.args.y c.requires.y_fits, reach_high f.rows_high f.dy_high))
 
@@ -18,7 +19,8 @@ pub cell_along-row-requires : goal.cell_along-row-requires
 cell_along-row-requires c = let f = card_facts _ c.requires.card in (omega arith, omega arith)
 
 pub overflow_cast-x : goal.overflow_cast-x
-overflow_cast-x c = let card = c.args.card in
+overflow_cast-x c =
+    let card = c.args.card in
     let f = card_facts card c.requires.card in
     rw (to_z-of_z c.ranges.x) (along_low (card.columns * card.dx) c.args.x c.requires.x_fits, omega (arith, along_high (card.columns * card.dx) c.args.x c.requires.x_fits, reach_high f.columns_high f.dx_high))
 

@@ -20,7 +20,8 @@ use Rattle.chamber.proofs.Cells.{place_below, height_fits_lem, deep_is}
 use Rattle.chamber.proofs.listed.Goals as goal
 
 pub inside-requires : goal.inside-requires
-inside-requires c = let card = c.args.card in
+inside-requires c =
+    let card = c.args.card in
     let f = card_facts card c.requires.on.card in
     let x_far : card.columns * card.dx ≤ 2 ^ 53 = omega (arith, reach_high f.columns_high f.dx_high) in
     let y_far : card.rows * card.dy ≤ 2 ^ 53 = omega (arith, reach_high f.rows_high f.dy_high) in

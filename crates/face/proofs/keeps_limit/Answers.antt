@@ -34,41 +34,41 @@ returns c =
 
 pub overflow_add-west_east : goal.overflow_add-west_east
 overflow_add-west_east c =
-    let west-east : c.counted.result + c.counted-2.result ≤ 40000000 = add-le-add (most c.requires.west _ _ c.counted.ensures) (most c.requires.east _ _ c.counted-2.ensures) in
-    omega (arith, west-east)
+    let west_east : c.counted.result + c.counted-2.result ≤ 40000000 = add-le-add (most c.requires.west _ _ c.counted.ensures) (most c.requires.east _ _ c.counted-2.ensures) in
+    omega (arith, west_east)
 
 pub overflow_add-south_north : goal.overflow_add-south_north
 overflow_add-south_north c =
-    let south-north : c.counted-3.result + c.counted-4.result ≤ 40000000 = let o = c in add-le-add (most o.requires.south _ _ c.counted-3.ensures) (most o.requires.north _ _ c.counted-4.ensures) in
-    omega (arith, south-north)
+    let south_north : c.counted-3.result + c.counted-4.result ≤ 40000000 = add-le-add (most c.requires.south _ _ c.counted-3.ensures) (most c.requires.north _ _ c.counted-4.ensures) in
+    omega (arith, south_north)
 
 pub overflow_mul-result : goal.overflow_mul-result
 overflow_mul-result c =
-    let west-east : c.counted.result + c.counted-2.result ≤ 40000000 = add-le-add (most c.requires.west _ _ c.counted.ensures) (most c.requires.east _ _ c.counted-2.ensures) in
-    let by-y : (c.counted.result + c.counted-2.result) * c.args.dy ≤ 40000000 * 20000000 = mul-le-mul west-east c.requires.side_y.high in
-    omega (arith, by-y)
+    let west_east : c.counted.result + c.counted-2.result ≤ 40000000 = add-le-add (most c.requires.west _ _ c.counted.ensures) (most c.requires.east _ _ c.counted-2.ensures) in
+    let by_y : (c.counted.result + c.counted-2.result) * c.args.dy ≤ 40000000 * 20000000 = mul-le-mul west_east c.requires.side_y.high in
+    omega (arith, by_y)
 
 pub overflow_mul-result-2 : goal.overflow_mul-result-2
 overflow_mul-result-2 c =
-    let south-north : c.counted-3.result + c.counted-4.result ≤ 40000000 = let o = c in add-le-add (most o.requires.south _ _ c.counted-3.ensures) (most o.requires.north _ _ c.counted-4.ensures) in
-    let by-x : (c.counted-3.result + c.counted-4.result) * c.args.dx ≤ 40000000 * 20000000 = mul-le-mul south-north c.requires.side_x.high in
-    omega (arith, by-x)
+    let south_north : c.counted-3.result + c.counted-4.result ≤ 40000000 = add-le-add (most c.requires.south _ _ c.counted-3.ensures) (most c.requires.north _ _ c.counted-4.ensures) in
+    let by_x : (c.counted-3.result + c.counted-4.result) * c.args.dx ≤ 40000000 * 20000000 = mul-le-mul south_north c.requires.side_x.high in
+    omega (arith, by_x)
 
 pub overflow_add-result : goal.overflow_add-result
 overflow_add-result c =
-    let west-east : c.counted.result + c.counted-2.result ≤ 40000000 = add-le-add (most c.requires.west _ _ c.counted.ensures) (most c.requires.east _ _ c.counted-2.ensures) in
-    let south-north : c.counted-3.result + c.counted-4.result ≤ 40000000 = let o = c in add-le-add (most o.requires.south _ _ c.counted-3.ensures) (most o.requires.north _ _ c.counted-4.ensures) in
-    let by-y : (c.counted.result + c.counted-2.result) * c.args.dy ≤ 40000000 * 20000000 = mul-le-mul west-east c.requires.side_y.high in
-    let by-x : (c.counted-3.result + c.counted-4.result) * c.args.dx ≤ 40000000 * 20000000 = mul-le-mul south-north c.requires.side_x.high in
-    omega (arith, by-y, by-x)
+    let west_east : c.counted.result + c.counted-2.result ≤ 40000000 = add-le-add (most c.requires.west _ _ c.counted.ensures) (most c.requires.east _ _ c.counted-2.ensures) in
+    let south_north : c.counted-3.result + c.counted-4.result ≤ 40000000 = add-le-add (most c.requires.south _ _ c.counted-3.ensures) (most c.requires.north _ _ c.counted-4.ensures) in
+    let by_y : (c.counted.result + c.counted-2.result) * c.args.dy ≤ 40000000 * 20000000 = mul-le-mul west_east c.requires.side_y.high in
+    let by_x : (c.counted-3.result + c.counted-4.result) * c.args.dx ≤ 40000000 * 20000000 = mul-le-mul south_north c.requires.side_x.high in
+    omega (arith, by_y, by_x)
 
 pub overflow_mul-result-3 : goal.overflow_mul-result-3
 overflow_mul-result-3 c =
-    let west-east : c.counted.result + c.counted-2.result ≤ 40000000 = add-le-add (most c.requires.west _ _ c.counted.ensures) (most c.requires.east _ _ c.counted-2.ensures) in
-    let south-north : c.counted-3.result + c.counted-4.result ≤ 40000000 = let o = c in add-le-add (most o.requires.south _ _ c.counted-3.ensures) (most o.requires.north _ _ c.counted-4.ensures) in
-    let by-y : (c.counted.result + c.counted-2.result) * c.args.dy ≤ 40000000 * 20000000 = mul-le-mul west-east c.requires.side_y.high in
-    let by-x : (c.counted-3.result + c.counted-4.result) * c.args.dx ≤ 40000000 * 20000000 = mul-le-mul south-north c.requires.side_x.high in
-    omega (arith, mul-le-mul c.requires.time.high (add-le-add by-y by-x))
+    let west_east : c.counted.result + c.counted-2.result ≤ 40000000 = add-le-add (most c.requires.west _ _ c.counted.ensures) (most c.requires.east _ _ c.counted-2.ensures) in
+    let south_north : c.counted-3.result + c.counted-4.result ≤ 40000000 = add-le-add (most c.requires.south _ _ c.counted-3.ensures) (most c.requires.north _ _ c.counted-4.ensures) in
+    let by_y : (c.counted.result + c.counted-2.result) * c.args.dy ≤ 40000000 * 20000000 = mul-le-mul west_east c.requires.side_y.high in
+    let by_x : (c.counted-3.result + c.counted-4.result) * c.args.dx ≤ 40000000 * 20000000 = mul-le-mul south_north c.requires.side_x.high in
+    omega (arith, mul-le-mul c.requires.time.high (add-le-add by_y by_x))
 
 pub overflow_mul-result-4 : goal.overflow_mul-result-4
 overflow_mul-result-4 c = omega (arith, mul-le-mul c.requires.side_x.high c.requires.side_y.high)

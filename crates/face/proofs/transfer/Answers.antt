@@ -17,8 +17,7 @@ pub returns-then-h-eq0 : goal.returns-then-h-eq0
 returns-then-h-eq0 c =
     let came : let i = c.args in c.upwind-h.result ≡ cond (lt_z i.u (pos 0)) i.hl i.hk = c.upwind-h.ensures ∙ rw (to_z-of_z c.ranges.u, to_z-of_z c.ranges.hl, to_z-of_z c.ranges.hk) in
     let upwind : Node w32 = result came (either_within (lt_z c.args.u (pos 0)) (height_within c.requires.height_l) (height_within c.requires.height_k)) tt in
-    let start = c in
-    transfer_none _ _ _ _ _ start.requires.height_k.low start.requires.height_l.low (is_zero_lem upwind c.if-h-eq0.true)
+    transfer_none _ _ _ _ _ c.requires.height_k.low c.requires.height_l.low (is_zero_lem upwind c.if-h-eq0.true)
 
 pub returns : goal.returns
 returns c =
@@ -31,8 +30,7 @@ returns c =
     let top : Node w64 = mul hu dt tt in
     let d : Node w64 = nat c.requires.side.high tt in
     let below : Node w64 = mul (lit 1000 tt) d tt in
-    let start = c in
-    value (quot top below) ∙ transfer-quot _ _ _ _ _ start.requires.height_k.low start.requires.height_l.low
+    value (quot top below) ∙ transfer-quot _ _ _ _ _ c.requires.height_k.low c.requires.height_l.low
 
 pub overflow_cast-top : goal.overflow_cast-top
 overflow_cast-top c =

@@ -8,9 +8,9 @@ use lib.ListN.{get_or}
 use mir.Val.{to_z}
 use mir.Syntax.{w32}
 use mir.Facts.{to_z-of_z}
-use Rattle.rules.specs.Grid.{greatest as Grid·greatest, max_z}
+use Rattle.rules.specs.Grid.{greatest as grid_greatest, max_z}
 use Rattle.laws.specs.Grids.{greatest_none, greatest_more}
 use Rattle.lists.proofs.greatest.Given as goal
 
 abbrev pub invariant-loop-i : goal.invariant-loop-i
-invariant-loop-i l = (l.i ≤ l.n) × (l.top ≡ Grid·greatest l.i (λ k. get_or l.s k (pos 0)))
+invariant-loop-i l = (l.i ≤ l.n) × (l.top ≡ grid_greatest l.i (λ k. get_or l.s k (pos 0)))

@@ -12,7 +12,8 @@ pub loop-i-init : goal.loop-i-init
 loop-i-init c = (omega arith, refl, rw sub-zero)
 
 pub loop-i-preserved : goal.loop-i-preserved
-loop-i-preserved c = let l = c.loop-i in
+loop-i-preserved c =
+    let l = c.loop-i in
     let a = c.args in
     (omega arith, length-set l.out _ _ ∙ l.invariant.1, put_turn l.out _ a.at a.k l.i l.rest c.loop-i-test.true (omega arith) l.invariant.2)
 
@@ -20,5 +21,6 @@ pub shape_of-out : goal.shape_of-out
 shape_of-out c = c.loop-i.invariant.1
 
 pub returns : goal.returns
-returns c = let l = c.loop-i in
+returns c =
+    let l = c.loop-i in
     put_end l.out _ c.args.at c.args.k l.i l.rest c.loop-i-test.false l.invariant.2

@@ -7,8 +7,8 @@ use lib.Dec.{ltb}
 use Rattle.rules.specs.Site.{first_refusal}
 use Rattle.laws.specs.Outcomes.{first_refused, first_passed}
 use Rattle.pins_laws.specs.Granted.{chamber_granted}
-use Rattle.pins_rules.specs.Table.{pinned, stands as Table·stands}
-use Rattle.pins_rules.specs.Calls.{unless as Calls·unless, add_number}
+use Rattle.pins_rules.specs.Table.{pinned, stands as table_stands}
+use Rattle.pins_rules.specs.Calls.{unless as calls_unless, add_number}
 use Rattle.pin_numbers.proofs.add_number.Goals as goal
 
 pub returns-then-number-ne0 : goal.returns-then-number-ne0
@@ -23,9 +23,10 @@ held-requires c = omega (arith, (chamber_granted c.args.table.now c.args.crew c.
 
 pub returns : goal.returns
 unfolding add_number pinned
-returns c = let has = c.args.table.now in
+returns c =
+    let has = c.args.table.now in
     c.first_refusal.ensures
     ∙ ap₂ first_refusal
-    (c.unless-pinned.ensures ∙ ap (λ (b : Bool). Calls·unless (not b) 13) (c.stands.ensures ∙ ap (λ (w : ℕ). Table·stands w has) c.pin.ensures))
-    (c.unless-full.ensures ∙ ap (λ (n : ℕ). Calls·unless (ltb n 32) 14) c.held.ensures)
+    (c.unless-pinned.ensures ∙ ap (λ (b : Bool). calls_unless (not b) 13) (c.stands.ensures ∙ ap (λ (w : ℕ). table_stands w has) c.pin.ensures))
+    (c.unless-full.ensures ∙ ap (λ (n : ℕ). calls_unless (ltb n 32) 14) c.held.ensures)
     ∙ sym (first_passed _ _ (sym c.chamber_number-number.ensures ∙ c.if-number-ne0.false))

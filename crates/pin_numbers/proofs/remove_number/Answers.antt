@@ -5,8 +5,8 @@ use mathlib.Core.Bool.{Bool}
 use Prim.Native.Nat.{ℕ}
 use Rattle.laws.specs.Outcomes.{first_refused, first_passed}
 use Rattle.pins_laws.specs.Granted.{chamber_granted}
-use Rattle.pins_rules.specs.Table.{pinned, stands as Table·stands}
-use Rattle.pins_rules.specs.Calls.{unless as Calls·unless, remove_number}
+use Rattle.pins_rules.specs.Table.{pinned, stands as table_stands}
+use Rattle.pins_rules.specs.Calls.{unless as calls_unless, remove_number}
 use Rattle.pin_numbers.proofs.remove_number.Goals as goal
 
 pub returns-then-number-ne0 : goal.returns-then-number-ne0
@@ -18,7 +18,8 @@ pin-requires c = let g = chamber_granted _ _ _ (sym c.chamber_number-number.ensu
 
 pub returns : goal.returns
 unfolding remove_number pinned
-returns c = let has = c.args.table.now in
+returns c =
+    let has = c.args.table.now in
     c.unless.ensures
-    ∙ ap (λ (b : Bool). Calls·unless b 13) (c.stands.ensures ∙ ap (λ (w : ℕ). Table·stands w has) c.pin.ensures)
+    ∙ ap (λ (b : Bool). calls_unless b 13) (c.stands.ensures ∙ ap (λ (w : ℕ). table_stands w has) c.pin.ensures)
     ∙ sym (first_passed _ _ (sym c.chamber_number-number.ensures ∙ c.if-number-ne0.false))

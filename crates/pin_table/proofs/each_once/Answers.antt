@@ -15,7 +15,8 @@ pub returns-then-not-mark : goal.returns-then-not-mark
 returns-then-not-mark c = mark_twice c.requires.fit c.loop-k.invariant c.loop-k-test.true (sym c.mark.ensures.says ∙ c.if-not-mark.true)
 
 pub loop-k-preserved : goal.loop-k-preserved
-loop-k-preserved c = let marked = mark_more c.requires.fit c.loop-k.invariant c.loop-k-test.true (sym c.mark.ensures.says ∙ c.if-not-mark.false) in
+loop-k-preserved c =
+    let marked = mark_more c.requires.fit c.loop-k.invariant c.loop-k-test.true (sym c.mark.ensures.says ∙ c.if-not-mark.false) in
     subst (λ (l : List ℕ). Marking c.args.table.now l (c.loop-k.k - 1)) (sym c.mark.ensures.leaves) marked
 
 pub returns : goal.returns

@@ -14,5 +14,6 @@ each_once-once-requires c = record { fit = to_T (sym c.words_fit.ensures ∙ c.i
 
 pub returns : goal.returns
 unfolding table_fits
-returns c = let fit : words_fit c.args.table.now ≡ true = sym c.words_fit.ensures ∙ c.if-not-words_fit.false in
+returns c =
+    let fit : words_fit c.args.table.now ≡ true = sym c.words_fit.ensures ∙ c.if-not-words_fit.false in
     rw fit (cc (c.each_once-once.ensures, c.held-one.ensures, c.held-two.ensures))

@@ -23,7 +23,8 @@ list-count-requires c = list_granted _ _ _ (sym c.crew_number-number.ensures ∙
 
 pub overflow_cast-count : goal.overflow_cast-count
 unfolding list_number
-overflow_cast-count c = let g = list_granted c.args.table.now c.args.crew c.args.found.now (sym c.crew_number-number.ensures ∙ c.if-number-ne0.false) in
+overflow_cast-count c =
+    let g = list_granted c.args.table.now c.args.crew c.args.found.now (sym c.crew_number-number.ensures ∙ c.if-number-ne0.false) in
     omega (arith, c.list-count.ensures.counted, as_many_as_held c.args.crew g.known c.args.table.now g.is_sound.words g.is_sound.once, g.is_sound.few g.known)
 
 pub returns : goal.returns

@@ -12,6 +12,7 @@ pub slice_bounds-put_front-end : goal.slice_bounds-put_front-end
 slice_bounds-put_front-end c = front_length c.print_input-end.ensures
 
 pub returns : goal.returns
-returns c = let p = c.print_input-end.ensures in
+returns c =
+    let p = c.print_input-end.ensures in
     let w = front_within p in
     record { text = put_same (front_part p) c.put_front.ensures; short = omega (arith, p.stop, c.print_input-end.auto.page) }

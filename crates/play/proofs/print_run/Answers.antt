@@ -13,12 +13,12 @@ use Rattle.play.proofs.print_run.Goals as goal
 
 pub returns : goal.returns
 unfolding played_text run_tally run_state
-returns c = let s = c in
+returns c =
     let t = c.tally_line-end.ensures in
     let r = c.run-tally.ensures in
-    let space = s.requires.space in
+    let space = c.requires.space in
     let far = t.end in
     appended_more
     (appended_same (ap (λ (x : Tally). tally_line (progress_of x)) r.answer) t.text)
-    (appended_same (ap (λ (l : List ℤ). row_lines s.args.card l s.args.card.rows) r.state_exit) c.row_lines.ensures)
+    (appended_same (ap (λ (l : List ℤ). row_lines c.args.card l c.args.card.rows) r.state_exit) c.row_lines.ensures)
     (omega arith)

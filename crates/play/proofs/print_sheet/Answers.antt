@@ -5,7 +5,7 @@ use Rattle.rules.specs.declared.Heard.{Heard}
 use Rattle.rules.specs.Site.{state_length}
 use Rattle.rules.specs.Sheet.{card_in}
 use Rattle.print.proofs.Laws.{appended_same}
-use Rattle.play.proofs.Numbers.{narrow, short, card_read, ground_read, state_read, played-run}
+use Rattle.play.proofs.Numbers.{narrow, short, card_read, ground_read, state_read, played_run}
 use borrow.Author.Rules.{rules}
 use Rattle.play.proofs.print_sheet.Goals as goal
 
@@ -37,7 +37,7 @@ returns c =
     let l = s.args.sheet.now in
     let r = c.read_sheet-heard.ensures in
     appended_same
-    (played-run l _ _ _ _
+    (played_run l _ _ _ _
     card
     (r.ground_exit ∙ ground_read l p.number _ _ p.ground_words p.state_words)
     (r.state_exit ∙ state_read l p.number _ _ p.ground_words p.state_words)

@@ -27,12 +27,10 @@ pub returns-then-card : goal.returns-then-card
 unfolding own_number
 returns-then-card c =
     let own : read_number c.args.input.now (cells (card_in c.args.input.now)) (state_length (card_in c.args.input.now)) ≡ 0 = sym c.own_number-own.ensures ∙ c.if-own-ne0.false in
-    let e = c in
-    number_small e.args.input.now e.if-input-gt16659.false own (ap small (sym c.card_in-card.ensures) ∙ c.if-card.true)
+    number_small c.args.input.now c.if-input-gt16659.false own (ap small (sym c.card_in-card.ensures) ∙ c.if-card.true)
 
 pub returns : goal.returns
 unfolding own_number
 returns c =
     let own : read_number c.args.input.now (cells (card_in c.args.input.now)) (state_length (card_in c.args.input.now)) ≡ 0 = sym c.own_number-own.ensures ∙ c.if-own-ne0.false in
-    let e = c in
-    number_large e.args.input.now e.if-input-gt16659.false own (ap small (sym c.card_in-card.ensures) ∙ c.if-card.false)
+    number_large c.args.input.now c.if-input-gt16659.false own (ap small (sym c.card_in-card.ensures) ∙ c.if-card.false)

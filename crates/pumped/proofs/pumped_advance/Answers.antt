@@ -21,7 +21,8 @@ pub undo-requires : goal.undo-requires
 undo-requires c = undoable c.requires c.pump-acted.ensures (search (not-false, rules)) (search rules) _ (search rules)
 
 pub returns-then-number-ne0 : goal.returns-then-number-ne0
-returns-then-number-ne0 c = let p = c.pump-acted.ensures in
+returns-then-number-ne0 c =
+    let p = c.pump-acted.ensures in
     moved c.requires p (search (not-false, rules)) c.advance-number.ensures (λ h. c.undo.ensures ∙ p.undone (search (not-false, rules)))
 
 pub returns-else-number-ne0 : goal.returns-else-number-ne0

@@ -8,5 +8,6 @@ pub returns-then-amount-le0 : goal.returns-then-amount-le0
 returns-then-amount-le0 c = adds_none _ (rw (to_z-of_z c.ranges.amount) at c.if-amount-le0.true)
 
 pub returns : goal.returns
-returns c = let is = to_z-of_z c.ranges.amount in
+returns c =
+    let is = to_z-of_z c.ranges.amount in
     is ∙ adds_amount _ (rw is at c.if-amount-le0.false)

@@ -18,13 +18,11 @@ pump_fits-requires c = record { card = c.requires; held = c.loop-k-test.true }
 
 pub returns-then-not-pump_fits : goal.returns-then-not-pump_fits
 unfolding pumps_fit
-returns-then-not-pump_fits c = let p = c in
-    sym (all_broken (pump_count p.args.pumps.now) (λ k. pump_fits p.args.card (pump_at p.args.pumps.now k)) _ p.loop-k-test.true
-    (to_T (ap not (sym p.pump_fits.ensures ∙ c.if-not-pump_fits.true))))
+returns-then-not-pump_fits c = sym (all_broken (pump_count c.args.pumps.now) (λ k. pump_fits c.args.card (pump_at c.args.pumps.now k)) _ c.loop-k-test.true
+    (to_T (ap not (sym c.pump_fits.ensures ∙ c.if-not-pump_fits.true))))
 
 pub loop-k-preserved : goal.loop-k-preserved
-loop-k-preserved c = let p = c in
-    (omega arith, all_more _ _ p.loop-k.invariant.1 (to_T (sym p.pump_fits.ensures ∙ c.if-not-pump_fits.false)))
+loop-k-preserved c = (omega arith, all_more _ _ c.loop-k.invariant.1 (to_T (sym c.pump_fits.ensures ∙ c.if-not-pump_fits.false)))
 
 pub returns : goal.returns
 unfolding pumps_fit

@@ -22,9 +22,9 @@ pub overflow_cast-cell : goal.overflow_cast-cell
 unfolding pump_at
 overflow_cast-cell c =
     let pump : Pump = pump_at c.args.pumps.now (c.loop-k.k - 1) in
-    let cell-is : c.pump_at-one.result.cell ≡ pump.cell = c.pump_at-one.ensures.0 in
+    let cell_is : c.pump_at-one.result.cell ≡ pump.cell = c.pump_at-one.ensures.0 in
     let held : (pump.cell ≡ pos (nat_abs pump.cell)) × (nat_abs pump.cell < length c.args.state.now) = let l = c.loop-k in c.requires.cells_held (l.k - 1) (omega (arith, l.invariant.most, c.loop-k-test.true)) in
-    place_cast _ c.struct_told-1.given.0.1 cell-is held.0
+    place_cast _ c.struct_told-1.given.0.1 cell_is held.0
 
 pub offset_bounds-found-k : goal.offset_bounds-found-k
 offset_bounds-found-k c = omega (arith, c.requires.room)
@@ -36,27 +36,26 @@ pub offset_bounds-state-cell : goal.offset_bounds-state-cell
 unfolding pump_at
 offset_bounds-state-cell c =
     let pump : Pump = pump_at c.args.pumps.now (c.loop-k.k - 1) in
-    let cell-is : c.pump_at-one.result.cell ≡ pump.cell = c.pump_at-one.ensures.0 in
+    let cell_is : c.pump_at-one.result.cell ≡ pump.cell = c.pump_at-one.ensures.0 in
     let held : (pump.cell ≡ pos (nat_abs pump.cell)) × (nat_abs pump.cell < length c.args.state.now) = let l = c.loop-k in c.requires.cells_held (l.k - 1) (omega (arith, l.invariant.most, c.loop-k-test.true)) in
-    let place : nat_abs (to_z w32 (of_z w32 c.pump_at-one.result.cell)) < length c.loop-k.state = rw (place_is _ c.struct_told-1.given.0.1 cell-is) (omega (arith, held.1, c.loop-k.invariant.long)) in
+    let place : nat_abs (to_z w32 (of_z w32 c.pump_at-one.result.cell)) < length c.loop-k.state = rw (place_is _ c.struct_told-1.given.0.1 cell_is) (omega (arith, held.1, c.loop-k.invariant.long)) in
     omega (arith, place)
 
 pub bounds-state-cell : goal.bounds-state-cell
 unfolding pump_at
 bounds-state-cell c =
     let pump : Pump = pump_at c.args.pumps.now (c.loop-k.k - 1) in
-    let cell-is : c.pump_at-one.result.cell ≡ pump.cell = c.pump_at-one.ensures.0 in
+    let cell_is : c.pump_at-one.result.cell ≡ pump.cell = c.pump_at-one.ensures.0 in
     let held : (pump.cell ≡ pos (nat_abs pump.cell)) × (nat_abs pump.cell < length c.args.state.now) = let l = c.loop-k in c.requires.cells_held (l.k - 1) (omega (arith, l.invariant.most, c.loop-k-test.true)) in
-    let place : nat_abs (to_z w32 (of_z w32 c.pump_at-one.result.cell)) < length c.loop-k.state = rw (place_is _ c.struct_told-1.given.0.1 cell-is) (omega (arith, held.1, c.loop-k.invariant.long)) in
+    let place : nat_abs (to_z w32 (of_z w32 c.pump_at-one.result.cell)) < length c.loop-k.state = rw (place_is _ c.struct_told-1.given.0.1 cell_is) (omega (arith, held.1, c.loop-k.invariant.long)) in
     omega (arith, place)
 
 pub loop-k-preserved : goal.loop-k-preserved
 unfolding pump_at
 loop-k-preserved c =
     let pump : Pump = pump_at c.args.pumps.now (c.loop-k.k - 1) in
-    let cell-is : c.pump_at-one.result.cell ≡ pump.cell = c.pump_at-one.ensures.0 in
-    let t = c in
-    undo_more t.loop-k.invariant t.loop-k-test.true (place_is _ c.struct_told-1.given.0.1 cell-is) (word_is _ c.state-1.given refl)
+    let cell_is : c.pump_at-one.result.cell ≡ pump.cell = c.pump_at-one.ensures.0 in
+    undo_more c.loop-k.invariant c.loop-k-test.true (place_is _ c.struct_told-1.given.0.1 cell_is) (word_is _ c.state-1.given refl)
 
 pub returns : goal.returns
 returns c = undo_all c.loop-k.invariant c.loop-k-test.false

@@ -8,7 +8,8 @@ use Rattle.records.proofs.put.Goals as goal
 
 pub returns : goal.returns
 unfolding put_at
-returns c = let a = c.args in
+returns c =
+    let a = c.args in
     let x_is : to_z w64 (of_z w64 a.chamber.x) ≡ a.chamber.x = search rules in
     let y_is : to_z w64 (of_z w64 a.chamber.y) ≡ a.chamber.y = search rules in
     simp (x_is, y_is)

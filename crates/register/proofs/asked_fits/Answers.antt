@@ -16,12 +16,9 @@ reach-requires-2 c = let f = card_facts _ c.requires in (f.rows_high, f.dy_high)
 
 pub returns : goal.returns
 unfolding asked_fits
-returns c = let height = c in
-    let y = height in
-    let x = y in
-    let o = x in
-    let a = o.args in
-    let x_is : x.all_along-x.result ≡ all_along (a.card.columns * a.card.dx) a.xs.now = x.all_along-x.ensures ∙ simp (to_z-of_z {w = w64} {z = x.reach.result} (record { sfits = x.reach.type_inv }) ∙ x.reach.ensures) in
-    let y_is : y.all_along-y.result ≡ all_along (a.card.rows * a.card.dy) a.ys.now = y.all_along-y.ensures ∙ simp (to_z-of_z {w = w64} {z = y.reach-2.result} (record { sfits = y.reach-2.type_inv }) ∙ y.reach-2.ensures) in
-    let height_is : height.height_fits.result ≡ height_fits a.depth = height.height_fits.ensures ∙ ap height_fits (to_z-of_z o.ranges.depth) in
+returns c =
+    let a = c.args in
+    let x_is : c.all_along-x.result ≡ all_along (a.card.columns * a.card.dx) a.xs.now = c.all_along-x.ensures ∙ simp (to_z-of_z {w = w64} {z = c.reach.result} (record { sfits = c.reach.type_inv }) ∙ c.reach.ensures) in
+    let y_is : c.all_along-y.result ≡ all_along (a.card.rows * a.card.dy) a.ys.now = c.all_along-y.ensures ∙ simp (to_z-of_z {w = w64} {z = c.reach-2.result} (record { sfits = c.reach-2.type_inv }) ∙ c.reach-2.ensures) in
+    let height_is : c.height_fits.result ≡ height_fits a.depth = c.height_fits.ensures ∙ ap height_fits (to_z-of_z c.ranges.depth) in
     cc (x_is, y_is, height_is, c.edges_finite.ensures)

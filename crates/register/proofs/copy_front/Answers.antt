@@ -6,10 +6,10 @@ pub loop-k-init : goal.loop-k-init
 loop-k-init c = copy_none
 
 pub bounds-found-k : goal.bounds-found-k
-bounds-found-k c = let at = c in omega (arith, copy_length at.loop-k.invariant at.requires.0 at.requires.1)
+bounds-found-k c = omega (arith, copy_length c.loop-k.invariant c.requires.0 c.requires.1)
 
 pub loop-k-preserved : goal.loop-k-preserved
-loop-k-preserved c = let at = c in copy_more 0 at.loop-k.invariant c.loop-k-test.true at.requires.0 at.requires.1
+loop-k-preserved c = copy_more 0 c.loop-k.invariant c.loop-k-test.true c.requires.0 c.requires.1
 
 pub shape_of-found : goal.shape_of-found
 shape_of-found c = copy_length c.loop-k.invariant c.requires.0 c.requires.1

@@ -14,29 +14,28 @@ pub loop-k-init : goal.loop-k-init
 loop-k-init c = list_none
 
 pub overflow_cast-draft : goal.overflow_cast-draft
-overflow_cast-draft c = let at = c in omega (arith, at.requires.0.few)
+overflow_cast-draft c = omega (arith, c.requires.0.few)
 
 pub offset_bounds-draft-n : goal.offset_bounds-draft-n
 offset_bounds-draft-n c =
-    let small : c.loop-k.n < 1000 = let at = c in omega (arith, list_few at.loop-k.invariant, at.requires.0.few) in
+    let small : c.loop-k.n < 1000 = omega (arith, list_few c.loop-k.invariant, c.requires.0.few) in
     omega (arith, small)
 
 pub bounds-draft-n : goal.bounds-draft-n
-bounds-draft-n c = let at = c in omega (arith, list_few at.loop-k.invariant, list_length at.loop-k.invariant at.requires.1, at.requires.1)
+bounds-draft-n c = omega (arith, list_few c.loop-k.invariant, list_length c.loop-k.invariant c.requires.1, c.requires.1)
 
 pub overflow_add-n : goal.overflow_add-n
 overflow_add-n c =
-    let small : c.loop-k.n < 1000 = let at = c in omega (arith, list_few at.loop-k.invariant, at.requires.0.few) in
+    let small : c.loop-k.n < 1000 = omega (arith, list_few c.loop-k.invariant, c.requires.0.few) in
     omega (arith, small)
 
 pub loop-k-preserved : goal.loop-k-preserved
-loop-k-preserved c = let at = c in
-    let o = at in
+loop-k-preserved c =
     let less = c.loop-k-test.true in
     let said = c.listed_at.ensures in
     elim c.if-listed_at.branch [
-      | then-listed_at w ↦ list_yes at.loop-k.invariant less o.requires.1 (sym said ∙ w.if-listed_at.true) w.draft-is w.n-is
-      | else-listed_at w ↦ list_no at.loop-k.invariant less (sym said ∙ w.if-listed_at.false) w.draft-is w.n-is
+      | then-listed_at w ↦ list_yes c.loop-k.invariant less c.requires.1 (sym said ∙ w.if-listed_at.true) w.draft-is w.n-is
+      | else-listed_at w ↦ list_no c.loop-k.invariant less (sym said ∙ w.if-listed_at.false) w.draft-is w.n-is
     ]
 
 pub shape_of-draft : goal.shape_of-draft
@@ -46,6 +45,5 @@ pub returns : goal.returns
 unfolding list_of
 returns c =
     let test : ℤ → ℕ → Bool = (λ depth. listed_at c.args.card c.args.state.now c.args.window depth c.args.xs.now c.args.ys.now) in
-    let o = c in
-    subst (λ (z : ℤ). Listed (places (length o.args.xs.now) (test z)) o.args.draft.now c.loop-k.n c.loop-k.draft) (to_z-of_z o.ranges.depth)
+    subst (λ (z : ℤ). Listed (places (length c.args.xs.now) (test z)) c.args.draft.now c.loop-k.n c.loop-k.draft) (to_z-of_z c.ranges.depth)
     (list_all c.loop-k.invariant c.loop-k-test.false)

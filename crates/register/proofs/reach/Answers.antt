@@ -13,5 +13,6 @@ pub overflow_cast-result : goal.overflow_cast-result
 overflow_cast-result c = omega (arith, reach_high c.requires.0 c.requires.1)
 
 pub returns : goal.returns
-returns c = let small : c.args.count * c.args.side < 2 ^ 63 = omega (arith, reach_high c.requires.0 c.requires.1) in
+returns c =
+    let small : c.args.count * c.args.side < 2 ^ 63 = omega (arith, reach_high c.requires.0 c.requires.1) in
     to_z_pos w64 small

@@ -5,9 +5,9 @@ use Rattle.run.proofs.Answers.{state_few}
 use Rattle.run.proofs.large_run.Goals as goal
 
 pub run_in-requires : goal.run_in-requires
-run_in-requires c = let start = c in
-    let a = start.args in
+run_in-requires c =
+    let a = c.args in
     record {
-      lent = start.requires;
-      tide_room = omega (arith, state_few a.card a.land.now a.state.now a.pumps.now a.scratch.now start.requires, c.longest-tide.ensures);
+      lent = c.requires;
+      tide_room = omega (arith, state_few a.card a.land.now a.state.now a.pumps.now a.scratch.now c.requires, c.longest-tide.ensures);
     }

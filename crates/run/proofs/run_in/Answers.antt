@@ -17,6 +17,5 @@ pub steps-tally-requires : goal.steps-tally-requires
 steps-tally-requires c = run_room c.requires
 
 pub returns : goal.returns
-returns c = let d = c in
-    ran _ _ _ _ _ d.requires.lent d.steps-tally.ensures
-    (c.clear.ensures ∙ ap (λ (n : ℕ). replicate n (pos 0)) d.steps-tally.auto.scratch)
+returns c = ran _ _ _ _ _ c.requires.lent c.steps-tally.ensures
+    (c.clear.ensures ∙ ap (λ (n : ℕ). replicate n (pos 0)) c.steps-tally.auto.scratch)

@@ -16,12 +16,10 @@ pub asked_fits-asked-requires : goal.asked_fits-asked-requires
 asked_fits-asked-requires c = (front_sized _ _ _ _ _ (sym c.front-front.ensures ∙ c.if-front-ne0.false)).card
 
 pub values_number-requires : goal.values_number-requires
-values_number-requires c = let e = c in front_sized _ _ _ _ _ (sym e.front-front.ensures ∙ e.if-front-ne0.false)
+values_number-requires c = front_sized _ _ _ _ _ (sym c.front-front.ensures ∙ c.if-front-ne0.false)
 
 pub returns : goal.returns
 unfolding search_check register_fits
-returns c = let k = c in
-    let e = k in
-    c.values_number.ensures
-    ∙ front_passed _ _ _ _ _ (sym e.front-front.ensures ∙ e.if-front-ne0.false) _
-    ∙ rw (k.asked_fits-asked.ensures, to_z-of_z e.ranges.depth)
+returns c = c.values_number.ensures
+    ∙ front_passed _ _ _ _ _ (sym c.front-front.ensures ∙ c.if-front-ne0.false) _
+    ∙ rw (c.asked_fits-asked.ensures, to_z-of_z c.ranges.depth)

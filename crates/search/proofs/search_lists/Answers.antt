@@ -10,19 +10,16 @@ use Rattle.search.proofs.search_lists.Goals as goal
 pub returns-then-number-ne0 : goal.returns-then-number-ne0
 returns-then-number-ne0 c =
     let said : let a = c.args in c.search_check-number.result ≡ search_check a.card a.land.now a.state.now a.xs.now a.ys.now a.window a.depth = c.search_check-number.ensures ∙ simp (to_z-of_z c.ranges.depth) in
-    let o = c in
-    let a = o.args in
+    let a = c.args in
     refused a.card a.land.now a.state.now a.xs.now a.ys.now a.window a.depth a.found.now c.search_check-number.result said c.if-number-ne0.true
 
 pub report-requires : goal.report-requires
 report-requires c =
     let said : let a = c.args in c.search_check-number.result ≡ search_check a.card a.land.now a.state.now a.xs.now a.ys.now a.window a.depth = c.search_check-number.ensures ∙ simp (to_z-of_z c.ranges.depth) in
     let passed : let a = c.args in search_check a.card a.land.now a.state.now a.xs.now a.ys.now a.window a.depth ≡ 0 = sym said ∙ c.if-number-ne0.false in
-    let e = c in
-    let o = e in
-    let a = o.args in
+    let a = c.args in
     record {
-      checked = rw (to_z-of_z o.ranges.depth) (checked_of a.card a.land.now a.state.now a.xs.now a.ys.now a.window a.depth passed);
+      checked = rw (to_z-of_z c.ranges.depth) (checked_of a.card a.land.now a.state.now a.xs.now a.ys.now a.window a.depth passed);
       draft_long = c.blank-draft.ensures;
     }
 
@@ -30,9 +27,6 @@ pub returns : goal.returns
 returns c =
     let said : let a = c.args in c.search_check-number.result ≡ search_check a.card a.land.now a.state.now a.xs.now a.ys.now a.window a.depth = c.search_check-number.ensures ∙ simp (to_z-of_z c.ranges.depth) in
     let passed : let a = c.args in search_check a.card a.land.now a.state.now a.xs.now a.ys.now a.window a.depth ≡ 0 = sym said ∙ c.if-number-ne0.false in
-    let r = c in
-    let e = r in
-    let o = e in
-    let a = o.args in
-    answered a.card a.land.now a.state.now a.xs.now a.ys.now a.window a.depth a.found.now r.report.result r.report.new.found passed
-    (subst (λ (z : ℤ). Reported a.card a.state.now a.xs.now a.ys.now a.window z a.found.now r.report.result r.report.new.found) (to_z-of_z o.ranges.depth) r.report.ensures)
+    let a = c.args in
+    answered a.card a.land.now a.state.now a.xs.now a.ys.now a.window a.depth a.found.now c.report.result c.report.new.found passed
+    (subst (λ (z : ℤ). Reported a.card a.state.now a.xs.now a.ys.now a.window z a.found.now c.report.result c.report.new.found) (to_z-of_z c.ranges.depth) c.report.ensures)

@@ -11,9 +11,7 @@ pub sheet_size-requires : goal.sheet_size-requires
 sheet_size-requires c = card_passed _ _ _ _ c.check-refusal.ensures (λ z. omega (arith, z, c.if-refusal-ne0.false))
 
 pub returns-then-room-sheet_size : goal.returns-then-room-sheet_size
-returns-then-room-sheet_size c = let k = c in
-    write_8 _ _ _ _ _ k.check-refusal.ensures (omega (arith, c.if-refusal-ne0.false)) (omega (arith, c.if-room-sheet_size.true, c.sheet_size.ensures.0))
+returns-then-room-sheet_size c = write_8 _ _ _ _ _ c.check-refusal.ensures (omega (arith, c.if-refusal-ne0.false)) (omega (arith, c.if-room-sheet_size.true, c.sheet_size.ensures.0))
 
 pub returns : goal.returns
-returns c = let k = c in
-    write_0 _ _ _ _ _ k.check-refusal.ensures (omega (arith, c.if-refusal-ne0.false)) (omega (arith, c.if-room-sheet_size.false, c.sheet_size.ensures.0))
+returns c = write_0 _ _ _ _ _ c.check-refusal.ensures (omega (arith, c.if-refusal-ne0.false)) (omega (arith, c.if-room-sheet_size.false, c.sheet_size.ensures.0))

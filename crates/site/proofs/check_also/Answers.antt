@@ -14,5 +14,4 @@ pub values_number-requires : goal.values_number-requires
 values_number-requires c = front_sized _ _ _ _ _ (sym c.front-number.ensures ∙ c.if-number-ne0.false)
 
 pub returns : goal.returns
-returns c = let e = c in
-    c.values_number.ensures ∙ front_passed _ _ _ _ _ (sym e.front-number.ensures ∙ e.if-number-ne0.false) _
+returns c = c.values_number.ensures ∙ front_passed _ _ _ _ _ (sym c.front-number.ensures ∙ c.if-number-ne0.false) _

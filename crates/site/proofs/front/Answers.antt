@@ -11,27 +11,27 @@ use Rattle.site.proofs.front.Goals as goal
 pub returns-then-not-fits : goal.returns-then-not-fits
 unfolding front_also first_of
 returns-then-not-fits c =
-    let card-is : (c.args.one && c.card_fits.result) ≡ (c.args.one && card_fits c.args.card) = ap (λ (b : Bool). c.args.one && b) c.card_fits.ensures in
-    rw (sym card-is ∙ not-true _ c.if-not-fits.true-raw)
+    let card_is : (c.args.one && c.card_fits.result) ≡ (c.args.one && card_fits c.args.card) = ap (λ (b : Bool). c.args.one && b) c.card_fits.ensures in
+    rw (sym card_is ∙ not-true _ c.if-not-fits.true-raw)
 
 pub lengths_fit-requires : goal.lengths_fit-requires
 lengths_fit-requires c =
-    let card-is : (c.args.one && c.card_fits.result) ≡ (c.args.one && card_fits c.args.card) = ap (λ (b : Bool). c.args.one && b) c.card_fits.ensures in
-    let passed : (c.args.one && card_fits c.args.card) ≡ true = sym card-is ∙ not-false _ c.if-not-fits.false-raw in
+    let card_is : (c.args.one && c.card_fits.result) ≡ (c.args.one && card_fits c.args.card) = ap (λ (b : Bool). c.args.one && b) c.card_fits.ensures in
+    let passed : (c.args.one && card_fits c.args.card) ≡ true = sym card_is ∙ not-false _ c.if-not-fits.false-raw in
     true_of _ (and_right c.args.one _ (to_T passed))
 
 pub returns-then-not-long : goal.returns-then-not-long
 unfolding front_also first_of
 returns-then-not-long c =
-    let card-is : (c.args.one && c.card_fits.result) ≡ (c.args.one && card_fits c.args.card) = ap (λ (b : Bool). c.args.one && b) c.card_fits.ensures in
-    let passed : (c.args.one && card_fits c.args.card) ≡ true = sym card-is ∙ not-false _ c.if-not-fits.false-raw in
-    let lengths-is : (c.args.two && c.lengths_fit.result) ≡ (c.args.two && lengths_fit c.args.card c.args.land.now c.args.state.now) = ap (λ (b : Bool). c.args.two && b) c.lengths_fit.ensures in
-    rw (passed, sym lengths-is ∙ not-true _ c.if-not-long.true-raw)
+    let card_is : (c.args.one && c.card_fits.result) ≡ (c.args.one && card_fits c.args.card) = ap (λ (b : Bool). c.args.one && b) c.card_fits.ensures in
+    let passed : (c.args.one && card_fits c.args.card) ≡ true = sym card_is ∙ not-false _ c.if-not-fits.false-raw in
+    let lengths_is : (c.args.two && c.lengths_fit.result) ≡ (c.args.two && lengths_fit c.args.card c.args.land.now c.args.state.now) = ap (λ (b : Bool). c.args.two && b) c.lengths_fit.ensures in
+    rw (passed, sym lengths_is ∙ not-true _ c.if-not-long.true-raw)
 
 pub returns : goal.returns
 unfolding front_also first_of
 returns c =
-    let card-is : (c.args.one && c.card_fits.result) ≡ (c.args.one && card_fits c.args.card) = ap (λ (b : Bool). c.args.one && b) c.card_fits.ensures in
-    let passed : (c.args.one && card_fits c.args.card) ≡ true = sym card-is ∙ not-false _ c.if-not-fits.false-raw in
-    let lengths-is : (c.args.two && c.lengths_fit.result) ≡ (c.args.two && lengths_fit c.args.card c.args.land.now c.args.state.now) = ap (λ (b : Bool). c.args.two && b) c.lengths_fit.ensures in
-    rw (passed, sym lengths-is ∙ not-false _ c.if-not-long.false-raw)
+    let card_is : (c.args.one && c.card_fits.result) ≡ (c.args.one && card_fits c.args.card) = ap (λ (b : Bool). c.args.one && b) c.card_fits.ensures in
+    let passed : (c.args.one && card_fits c.args.card) ≡ true = sym card_is ∙ not-false _ c.if-not-fits.false-raw in
+    let lengths_is : (c.args.two && c.lengths_fit.result) ≡ (c.args.two && lengths_fit c.args.card c.args.land.now c.args.state.now) = ap (λ (b : Bool). c.args.two && b) c.lengths_fit.ensures in
+    rw (passed, sym lengths_is ∙ not-false _ c.if-not-long.false-raw)

@@ -8,8 +8,8 @@ use Rattle.still.proofs.both_still.Goals as goal
 
 pub bounds-marks-j : goal.bounds-marks-j
 bounds-marks-j c =
-    let in-east : c.args.j < c.args.card.rows = eastward _ _ c.if-east.true c.requires.row in
-    omega (arith, in-east, c.requires.room)
+    let in_east : c.args.j < c.args.card.rows = eastward _ _ c.if-east.true c.requires.row in
+    omega (arith, in_east, c.requires.room)
 
 pub returns-then-east : goal.returns-then-east
 unfolding both_marked
@@ -21,20 +21,19 @@ returns-then-j-rows c = rw (c.if-east.false, c.if-j-rows.true)
 
 pub overflow_sub-result : goal.overflow_sub-result
 overflow_sub-result c =
-    let in-north : (0 < c.args.j) × (c.args.j < c.args.card.rows) = northward c.args.card _ c.if-east.false c.if-j-rows.false c.requires.row in
-    in-north.0
+    let in_north : (0 < c.args.j) × (c.args.j < c.args.card.rows) = northward c.args.card _ c.if-east.false c.if-j-rows.false c.requires.row in
+    in_north.0
 
 pub bounds-marks-j-2 : goal.bounds-marks-j-2
 bounds-marks-j-2 c =
-    let in-north : (0 < c.args.j) × (c.args.j < c.args.card.rows) = northward c.args.card _ c.if-east.false c.if-j-rows.false c.requires.row in
-    omega (arith, in-north, c.requires.room)
+    let in_north : (0 < c.args.j) × (c.args.j < c.args.card.rows) = northward c.args.card _ c.if-east.false c.if-j-rows.false c.requires.row in
+    omega (arith, in_north, c.requires.room)
 
 pub bounds-marks-j-3 : goal.bounds-marks-j-3
 bounds-marks-j-3 c =
-    let in-north : (0 < c.args.j) × (c.args.j < c.args.card.rows) = northward c.args.card _ c.if-east.false c.if-j-rows.false c.requires.row in
-    omega (arith, in-north, c.requires.room)
+    let in_north : (0 < c.args.j) × (c.args.j < c.args.card.rows) = northward c.args.card _ c.if-east.false c.if-j-rows.false c.requires.row in
+    omega (arith, in_north, c.requires.room)
 
 pub returns : goal.returns
 unfolding both_marked
-returns c = let d = c in
-    rw (d.if-east.false, d.if-j-rows.false)
+returns c = rw (c.if-east.false, c.if-j-rows.false)

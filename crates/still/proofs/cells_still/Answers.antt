@@ -21,8 +21,7 @@ row_still-requires-2 c = let p = c.requires in record { card = p.card; long = p.
 
 pub returns-then-not-row_still-2 : goal.returns-then-not-row_still-2
 unfolding cells_still
-returns-then-not-row_still-2 c = let d = c in
-    rw (sym d.row_still.ensures ∙ d.if-not-row_still.false, sym c.row_still-2.ensures ∙ c.if-not-row_still-2.true)
+returns-then-not-row_still-2 c = rw (sym c.row_still.ensures ∙ c.if-not-row_still.false, sym c.row_still-2.ensures ∙ c.if-not-row_still-2.true)
 
 pub overflow_add-j : goal.overflow_add-j
 overflow_add-j c = let p = c.requires in omega (arith, p.row, p.card.rows_high)
@@ -33,6 +32,4 @@ row_still-requires-3 c = let p = c.requires in record { card = p.card; long = p.
 
 pub returns : goal.returns
 unfolding cells_still
-returns c = let e = c in
-    let d = e in
-    rw (sym d.row_still.ensures ∙ d.if-not-row_still.false, sym e.row_still-2.ensures ∙ e.if-not-row_still-2.false, ← add-one) c.row_still-3.ensures
+returns c = rw (sym c.row_still.ensures ∙ c.if-not-row_still.false, sym c.row_still-2.ensures ∙ c.if-not-row_still-2.false, ← add-one) c.row_still-3.ensures

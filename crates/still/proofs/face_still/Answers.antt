@@ -6,5 +6,6 @@ use Rattle.laws.specs.Signed.{word_is}
 use Rattle.still.proofs.face_still.Goals as goal
 
 pub returns : goal.returns
-returns c = let u = c.face_at in
+returns c =
+    let u = c.face_at in
     c.is_zero.ensures ∙ ap is_zero (word_is u.result u.type_inv u.ensures)

@@ -13,13 +13,13 @@ cells_still-requires c = let p = c.requires in record { card = p.card; long = p.
 
 pub bounds-marks-j : goal.bounds-marks-j
 bounds-marks-j c =
-    let in-marks : c.loop-j.j < length c.loop-j.marks = let p = c.requires in omega (arith, p.room, c.loop-j.invariant.same, c.loop-j-test.true) in
-    in-marks
+    let in_marks : c.loop-j.j < length c.loop-j.marks = let p = c.requires in omega (arith, p.room, c.loop-j.invariant.same, c.loop-j-test.true) in
+    in_marks
 
 pub loop-j-preserved : goal.loop-j-preserved
 loop-j-preserved c =
-    let in-marks : c.loop-j.j < length c.loop-j.marks = let p = c.requires in omega (arith, p.room, c.loop-j.invariant.same, c.loop-j-test.true) in
-    one_more c.loop-j.invariant c.loop-j-test.true in-marks c.cells_still.ensures
+    let in_marks : c.loop-j.j < length c.loop-j.marks = let p = c.requires in omega (arith, p.room, c.loop-j.invariant.same, c.loop-j-test.true) in
+    one_more c.loop-j.invariant c.loop-j-test.true in_marks c.cells_still.ensures
 
 pub returns : goal.returns
 returns c = all_marked c.loop-j.invariant c.loop-j-test.false c.requires.room

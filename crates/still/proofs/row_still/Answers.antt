@@ -24,9 +24,9 @@ pub loop-i-init : goal.loop-i-init
 loop-i-init c = gather_none
 
 pub face_still-still-requires : goal.face_still-still-requires
-face_still-still-requires c = let w = c in
-    let p = w.requires in
-    record { card = p.card; long = p.long; face = record { column = omega (arith, w.wide-wide.ensures); row = p.row } }
+face_still-still-requires c =
+    let p = c.requires in
+    record { card = p.card; long = p.long; face = record { column = omega (arith, c.wide-wide.ensures); row = p.row } }
 
 pub loop-i-preserved : goal.loop-i-preserved
 loop-i-preserved c = gather_more c.loop-i.invariant (omega arith) c.face_still-still.ensures

@@ -17,8 +17,7 @@ pub over_faces-requires : goal.over_faces-requires
 unfolding wide high
 over_faces-requires c =
     let easts : ℕ = c.args.card.rows * (c.args.card.columns + 1) in
-    let start = c in
-    record { limited = start.requires.limited; marked = start.requires.marked; long = length_part easts start.args.part.now (omega arith) (omega arith) }
+    record { limited = c.requires.limited; marked = c.requires.marked; long = length_part easts c.args.part.now (omega arith) (omega arith) }
 
 pub over_faces-requires-2 : goal.over_faces-requires-2
 unfolding wide high
@@ -28,7 +27,6 @@ pub returns : goal.returns
 unfolding crossings wide high transfers
 returns c =
     let easts : ℕ = c.args.card.rows * (c.args.card.columns + 1) in
-    let start = c in
-    let same : start.args.card.rows * suc start.args.card.columns ≡ easts = omega arith in
-    two_parts easts start.args.part.now c.over_faces.ensures c.over_faces-2.ensures
+    let same : c.args.card.rows * suc c.args.card.columns ≡ easts = omega arith in
+    two_parts easts c.args.part.now c.over_faces.ensures c.over_faces-2.ensures
     (length-grid _ _ _ ∙ same)

@@ -26,8 +26,8 @@ face_at-u-requires c = let p = c.requires in face_place p.limited.sound p.face
 
 pub returns-then-u-eq0 : goal.returns-then-u-eq0
 returns-then-u-eq0 c =
-    let u-node : Node w32 = result c.face_at-u.ensures (speed_fits_lem c.requires.limited.sound _ _ _) tt in
-    sym (over_still _ _ _ _ _ (is_zero_lem u-node c.if-u-eq0.true))
+    let u_node : Node w32 = result c.face_at-u.ensures (speed_fits_lem c.requires.limited.sound _ _ _) tt in
+    sym (over_still _ _ _ _ _ (is_zero_lem u_node c.if-u-eq0.true))
 
 pub back-requires : goal.back-requires
 back-requires c =
@@ -42,14 +42,12 @@ back-requires-else-u-eq0 c =
 pub height_at-k-requires : goal.height_at-k-requires
 height_at-k-requires c =
     let cells : let a = c.args in Beside a.card a.east a.i a.j = let p = c.requires in beside _ _ _ _ p.face (sym c.is_wall.ensures ∙ c.if-is_wall.false) in
-    let inner = c in
     let b = cells in
     rw (c.back.ensures, c.back-else-u-eq0.ensures) (height_place c.requires.limited.sound b.column_k b.row_k)
 
 pub height_at-l-requires : goal.height_at-l-requires
 height_at-l-requires c =
     let cells : let a = c.args in Beside a.card a.east a.i a.j = let p = c.requires in beside _ _ _ _ p.face (sym c.is_wall.ensures ∙ c.if-is_wall.false) in
-    let inner = c in
     height_place c.requires.limited.sound cells.column_l cells.row_l
 
 pub crossing-requires : goal.crossing-requires

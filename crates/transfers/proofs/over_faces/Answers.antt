@@ -24,21 +24,18 @@ loop-j-init c =
     begin (le_of_eq (sym long))
 
 pub both_still-still-requires : goal.both_still-still-requires
-both_still-still-requires c = let d = c in
-    record { room = d.requires.marked.room; row = rw d.high-high.ensures at c.loop-j-test.true }
+both_still-still-requires c = record { room = c.requires.marked.room; row = rw c.high-high.ensures at c.loop-j-test.true }
 
 pub loop-i-init : goal.loop-i-init
 loop-i-init c = begin_row c.loop-j.invariant
 
 pub over_face-crossed-requires : goal.over_face-crossed-requires
 over_face-crossed-requires c =
-    let face : let a = c.args in FaceIn a.card a.east c.loop-i.i c.loop-j.j = let d = c in
-    record { column = omega (arith, d.wide-wide.ensures); row = omega (arith, d.high-high.ensures) } in
+    let face : let a = c.args in FaceIn a.card a.east c.loop-i.i c.loop-j.j = record { column = omega (arith, c.wide-wide.ensures); row = omega (arith, c.high-high.ensures) } in
     record { limited = c.requires.limited; face = face}
 
 pub put-requires : goal.put-requires
-put-requires c = let d = c in
-    place d.loop-i.invariant d.loop-j-test.true d.loop-i-test.true
+put-requires c = place c.loop-i.invariant c.loop-j-test.true c.loop-i-test.true
 
 pub loop-i-preserved : goal.loop-i-preserved
 loop-i-preserved c =
@@ -52,13 +49,11 @@ loop-i-preserved c =
     more c.loop-i.invariant c.loop-j-test.true c.loop-i-test.true c.put.ensures crossed_is
 
 pub loop-j-preserved : goal.loop-j-preserved
-loop-j-preserved c = let r = c in
-    more_rows r.loop-j.invariant c.loop-i.invariant r.loop-j-test.true c.loop-i-test.false
+loop-j-preserved c = more_rows c.loop-j.invariant c.loop-i.invariant c.loop-j-test.true c.loop-i-test.false
 
 pub returns : goal.returns
 returns c =
     let long : length c.args.part.now ≡ c.high-high.result * c.wide-wide.result = c.requires.long ∙ sym (ap₂ ◌*◌ c.high-high.ensures c.wide-wide.ensures) in
-    let d = c in
-    let a = d.args in
+    let a = c.args in
     done c.loop-j.invariant c.loop-j-test.false long
-    ∙ ap₂ (λ (m n : ℕ). grid m n (transfers a.card (read_state a.card a.state.now) a.east)) d.wide-wide.ensures d.high-high.ensures
+    ∙ ap₂ (λ (m n : ℕ). grid m n (transfers a.card (read_state a.card a.state.now) a.east)) c.wide-wide.ensures c.high-high.ensures

@@ -22,15 +22,13 @@ slice_bounds-both_ways-start c = omega (arith, room _ c.requires.long)
 pub both_ways-requires : goal.both_ways-requires
 both_ways-requires c =
     let cells : ℕ = c.args.card.rows * c.args.card.columns in
-    let start = c in
     record {
-      limited = start.requires.limited;
-      marked = start.requires.marked;
-      long = back_length cells start.args.tide.now ∙ omega (arith, room start.args.card start.requires.long);
+      limited = c.requires.limited;
+      marked = c.requires.marked;
+      long = back_length cells c.args.tide.now ∙ omega (arith, room c.args.card c.requires.long);
     }
 
 pub returns : goal.returns
 returns c =
     let cells : ℕ = c.args.card.rows * c.args.card.columns in
-    let start = c in
-    back_drop cells start.args.tide.now (room start.args.card start.requires.long).heights ∙ c.both_ways.ensures
+    back_drop cells c.args.tide.now (room c.args.card c.requires.long).heights ∙ c.both_ways.ensures

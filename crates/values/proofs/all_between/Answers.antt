@@ -14,10 +14,11 @@ pub loop-k-init : goal.loop-k-init
 loop-k-init c = gather_none
 
 pub loop-k-preserved : goal.loop-k-preserved
-loop-k-preserved c = let l = c in
-    let word = to_z-of_z {w = w32} {z = get_or l.args.s.now (l.args.start + l.loop-k.k) (pos 0)} (record { sfits = c.is_between-arg-1.given }) in
-    gather_more l.loop-k.invariant c.loop-k-test.true (c.is_between-ok.ensures ∙ simp word)
+loop-k-preserved c =
+    let word = to_z-of_z {w = w32} {z = get_or c.args.s.now (c.args.start + c.loop-k.k) (pos 0)} (record { sfits = c.is_between-arg-1.given }) in
+    gather_more c.loop-k.invariant c.loop-k-test.true (c.is_between-ok.ensures ∙ simp word)
 
 pub returns : goal.returns
-returns c = let f = c.ranges in
+returns c =
+    let f = c.ranges in
     simp (to_z-of_z f.low, to_z-of_z f.high) at (gather_all c.loop-k.invariant c.loop-k-test.false)

@@ -18,15 +18,11 @@ pub all_between-speeds-requires : goal.all_between-speeds-requires
 all_between-speeds-requires c = let l = length_facts _ _ _ c.requires.lengths in omega arith
 
 pub walls_still-requires : goal.walls_still-requires
-walls_still-requires c = let o = c in
-    record { card = o.requires.card; words = (length_facts _ _ _ o.requires.lengths).state }
+walls_still-requires c = record { card = c.requires.card; words = (length_facts _ _ _ c.requires.lengths).state }
 
 pub returns : goal.returns
-returns c = let speeds = c in
-    let depths = speeds in
-    let grounds = depths in
-    let o = grounds in
-    let a = o.args.card in
-    let n = grounds.cells-n.ensures.0 in
-    let m = (length_facts _ _ _ o.requires.lengths).state in
-    values_joined a o.args.land.now o.args.state.now (rw n at grounds.all_between-grounds.ensures) (rw n at depths.all_between-depths.ensures) (rw (n, m) at speeds.all_between-speeds.ensures) c.walls_still.ensures
+returns c =
+    let a = c.args.card in
+    let n = c.cells-n.ensures.0 in
+    let m = (length_facts _ _ _ c.requires.lengths).state in
+    values_joined a c.args.land.now c.args.state.now (rw n at c.all_between-grounds.ensures) (rw n at c.all_between-depths.ensures) (rw (n, m) at c.all_between-speeds.ensures) c.walls_still.ensures

@@ -16,10 +16,10 @@ returns-then-new_sum-eq0 c =
 pub returns-then-rise-eq0 : goal.returns-then-rise-eq0
 returns-then-rise-eq0 c =
     let risen : Node w32 = result c.rise-rise.ensures (rise-within c.requires.face) tt in
-    let r = c in sym (nothing_pulls _ _ _ _ r.requires.nothing (is_zero_lem risen c.if-rise-eq0.true))
+    sym (nothing_pulls _ _ _ _ c.requires.nothing (is_zero_lem risen c.if-rise-eq0.true))
 
 pub returns-then-dry_bank : goal.returns-then-dry_bank
-returns-then-dry_bank c = let b = c in sym (on_a_bank _ _ _ _ (sym b.dry_bank.ensures ∙ c.if-dry_bank.true))
+returns-then-dry_bank c = sym (on_a_bank _ _ _ _ (sym c.dry_bank.ensures ∙ c.if-dry_bank.true))
 
 pub returns : goal.returns
 returns c =
@@ -28,9 +28,8 @@ returns c =
     let pulled : Node w64 = let p = c.requires in
     sloped (cast risen tt) (rise-within p.face) p.time p.side c.slope.ensures in
     let new : Node w64 = sub (lit 0 tt) pulled tt in
-    let s = c in
     value new
-    ∙ sym (slope_alone _ _ _ _ s.requires.nothing (says_other h c.if-new_sum-eq0.false) (sym c.dry_bank.ensures ∙ c.if-dry_bank.false))
+    ∙ sym (slope_alone _ _ _ _ c.requires.nothing (says_other h c.if-new_sum-eq0.false) (sym c.dry_bank.ensures ∙ c.if-dry_bank.false))
 
 pub overflow_cast-rise : goal.overflow_cast-rise
 overflow_cast-rise c =
@@ -40,8 +39,7 @@ overflow_cast-rise c =
 pub slope-requires : goal.slope-requires
 slope-requires c =
     let risen : Node w32 = result c.rise-rise.ensures (rise-within c.requires.face) tt in
-    let r = c in
-    let p = r.requires in
+    let p = c.requires in
     in_slope (cast risen tt) (rise-within p.face) p.time p.side
 
 pub overflow_sub-result : goal.overflow_sub-result

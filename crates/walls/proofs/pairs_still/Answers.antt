@@ -52,14 +52,13 @@ pub is_zero-requires-in-loop-k : goal.is_zero-requires-in-loop-k
 is_zero-requires-in-loop-k c = tt
 
 pub loop-k-preserved : goal.loop-k-preserved
-loop-k-preserved c = let b = c in
-    let l = b in
-    let a = l.args in
-    let w = get_or a.s.now (a.first + l.loop-k.k * a.stride) (pos 0) in
-    let v = get_or a.s.now (a.second + l.loop-k.k * a.stride) (pos 0) in
-    let one : b.is_zero.result ≡ is_zero w = b.is_zero.ensures ∙ ap is_zero (to_z-of_z {w = w32} {z = w} (record { sfits = b.is_zero-arg-1.given })) in
+loop-k-preserved c =
+    let a = c.args in
+    let w = get_or a.s.now (a.first + c.loop-k.k * a.stride) (pos 0) in
+    let v = get_or a.s.now (a.second + c.loop-k.k * a.stride) (pos 0) in
+    let one : c.is_zero.result ≡ is_zero w = c.is_zero.ensures ∙ ap is_zero (to_z-of_z {w = w32} {z = w} (record { sfits = c.is_zero-arg-1.given })) in
     let two : c.is_zero-in-loop-k.result ≡ is_zero v = c.is_zero-in-loop-k.ensures ∙ ap is_zero (to_z-of_z {w = w32} {z = v} (record { sfits = c.is_zero-arg-in-loop-k-1.given })) in
-    gather_more l.loop-k.invariant b.loop-k-test.true (ap₂ ◌&&◌ one two)
+    gather_more c.loop-k.invariant c.loop-k-test.true (ap₂ ◌&&◌ one two)
 
 pub returns : goal.returns
 returns c = gather_all c.loop-k.invariant c.loop-k-test.false

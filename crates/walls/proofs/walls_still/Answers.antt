@@ -21,18 +21,18 @@ pub overflow_add-cells : goal.overflow_add-cells
 overflow_add-cells c = let b = card_facts _ c.requires.card in omega arith
 
 pub pairs_still-sides-requires : goal.pairs_still-sides-requires
-pairs_still-sides-requires c = let o = c in
-    let l = o.requires.words ∙ state_words o.args.card in
-    let row = a_row o.args.card o.requires.card (o.args.card.columns + 1) in
+pairs_still-sides-requires c =
+    let l = c.requires.words ∙ state_words c.args.card in
+    let row = a_row c.args.card c.requires.card (c.args.card.columns + 1) in
     strides (omega arith) (omega arith)
 
 pub overflow_add-north-3 : goal.overflow_add-north-3
 overflow_add-north-3 c = let b = card_facts _ c.requires.card in omega arith
 
 pub pairs_still-ends-requires : goal.pairs_still-ends-requires
-pairs_still-ends-requires c = let o = c in
-    let l = o.requires.words ∙ state_words o.args.card in
-    let row = a_row o.args.card o.requires.card o.args.card.columns in
+pairs_still-ends-requires c =
+    let l = c.requires.words ∙ state_words c.args.card in
+    let row = a_row c.args.card c.requires.card c.args.card.columns in
     strides (omega arith) (omega arith)
 
 pub returns : goal.returns

@@ -18,7 +18,7 @@ pub bounds-out-at-4 : goal.bounds-out-at-4
 bounds-out-at-4 c = rw (length-set, length-set, length-set) (omega arith)
 
 pub returns : goal.returns
-returns c = let a = c in
+returns c =
     let m = c.swapped-m.result in
-    four_laid a.args.out.now a.args.at (m % 256) (m / 256 % 256) (m / 65536 % 256) (m / 16777216) (omega arith)
-    ∙ ap (laid a.args.out.now a.args.at) (sym (bytes_swapped a.args.n m a.ranges.n.fits c.swapped-m.ensures))
+    four_laid c.args.out.now c.args.at (m % 256) (m / 256 % 256) (m / 65536 % 256) (m / 16777216) (omega arith)
+    ∙ ap (laid c.args.out.now c.args.at) (sym (bytes_swapped c.args.n m c.ranges.n.fits c.swapped-m.ensures))

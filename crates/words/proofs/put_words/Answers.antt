@@ -14,14 +14,14 @@ pub loop-i-init : goal.loop-i-init
 loop-i-init c = (refl, omega arith, refl, words_start _ _ c.args.words.now)
 
 pub loop-i-preserved : goal.loop-i-preserved
-loop-i-preserved c = let w = c in
-    let z = w in
-    let l = z.loop-i in
-    let a = z.args in
-    let word = to_z-of_z w32 (get_or a.words.now l.i (pos 0)) (record { sfits = z.z-1.given }) in
-    (refl, omega arith, w.put_word.auto.out ∙ l.invariant.2, words_turn a.words.now a.out.now l.out _ a.at l.i w.bits_of.result (omega arith) (omega arith) l.invariant.3 (w.bits_of.ensures ∙ ap bits_of word) w.put_word.ensures)
+loop-i-preserved c =
+    let l = c.loop-i in
+    let a = c.args in
+    let word = to_z-of_z w32 (get_or a.words.now l.i (pos 0)) (record { sfits = c.z-1.given }) in
+    (refl, omega arith, c.put_word.auto.out ∙ l.invariant.2, words_turn a.words.now a.out.now l.out _ a.at l.i c.bits_of.result (omega arith) (omega arith) l.invariant.3 (c.bits_of.ensures ∙ ap bits_of word) c.put_word.ensures)
 
 pub returns : goal.returns
-returns c = let l = c.loop-i in
+returns c =
+    let l = c.loop-i in
     let a = c.args in
     words_end a.words.now a.out.now l.out a.at l.i (omega arith) l.invariant.3

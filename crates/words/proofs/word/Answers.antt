@@ -17,7 +17,7 @@ byte x y e f = subst⁻¹ (λ (n : ℕ). n < 256) e f.fits
 
 pub overflow_mul-second : goal.overflow_mul-second
 overflow_mul-second c =
-    let two : c.widened-second.result < 256 = let w = c in byte _ _ w.widened-second.ensures (w.shared_slice_known-3-1.given _) in
+    let two : c.widened-second.result < 256 = byte _ _ c.widened-second.ensures (c.shared_slice_known-3-1.given _) in
     omega (arith, two)
 
 pub overflow_add-first : goal.overflow_add-first
@@ -28,7 +28,7 @@ overflow_add-first c =
 
 pub overflow_mul-third : goal.overflow_mul-third
 overflow_mul-third c =
-    let three : c.widened-third.result < 256 = let w = c in byte _ _ w.widened-third.ensures (w.shared_slice_known-4-1.given _) in
+    let three : c.widened-third.result < 256 = byte _ _ c.widened-third.ensures (c.shared_slice_known-4-1.given _) in
     omega (arith, three)
 
 pub overflow_add-first-2 : goal.overflow_add-first-2

@@ -12,13 +12,15 @@ use Rattle.around.proofs.Flows.{sound_of, ground_in_lem, state_in_lem, tide_in, 
 use Rattle.around.proofs.faces.face.Goals as goal
 
 pub forth-i_l-requires : goal.forth-i_l-requires
-forth-i_l-requires c = let a = c.requires in
+forth-i_l-requires c =
+    let a = c.requires in
     let k = cell_k a in
     let card = (facts (sound_of a.flowing)).card in
     omega arith
 
 pub forth-j_l-requires : goal.forth-j_l-requires
-forth-j_l-requires c = let a = c.requires in
+forth-j_l-requires c =
+    let a = c.requires in
     let k = cell_k a in
     let card = (facts (sound_of a.flowing)).card in
     omega arith
@@ -31,95 +33,82 @@ above-above-requires c =
 pub below-below-requires : goal.below-below-requires
 below-below-requires c =
     let l : Cell c.args.card c.forth-i_l.result c.forth-j_l.result = cell_l c.requires c.forth-i_l.ensures c.forth-j_l.ensures in
-    let d = c in face_place (sound_of d.requires.flowing) (near_in _ l)
+    face_place (sound_of c.requires.flowing) (near_in _ l)
 
 pub word-requires : goal.word-requires
-word-requires c = let d = c in state_in_lem d.requires.flowing (cell_k d.requires)
+word-requires c = state_in_lem c.requires.flowing (cell_k c.requires)
 
 pub word-requires-2 : goal.word-requires-2
 word-requires-2 c =
     let l : Cell c.args.card c.forth-i_l.result c.forth-j_l.result = cell_l c.requires c.forth-i_l.ensures c.forth-j_l.ensures in
-    let d = c in state_in_lem d.requires.flowing l
+    state_in_lem c.requires.flowing l
 
 -- a new height's place, which is the old height's too
 pub word-requires-3 : goal.word-requires-3
-word-requires-3 c = let d = c in
-    let k = cell_k d.requires in
-    omega (arith, state_in_lem d.requires.flowing k, tide_in d.requires.flowing k)
+word-requires-3 c =
+    let k = cell_k c.requires in
+    omega (arith, state_in_lem c.requires.flowing k, tide_in c.requires.flowing k)
 
 pub word-requires-4 : goal.word-requires-4
 word-requires-4 c =
     let l : Cell c.args.card c.forth-i_l.result c.forth-j_l.result = cell_l c.requires c.forth-i_l.ensures c.forth-j_l.ensures in
-    let d = c in
-    omega (arith, state_in_lem d.requires.flowing l, tide_in d.requires.flowing l)
+    omega (arith, state_in_lem c.requires.flowing l, tide_in c.requires.flowing l)
 
 pub word-requires-5 : goal.word-requires-5
-word-requires-5 c = let d = c in ground_in_lem d.requires.flowing (cell_k d.requires)
+word-requires-5 c = ground_in_lem c.requires.flowing (cell_k c.requires)
 
 pub word-requires-6 : goal.word-requires-6
 word-requires-6 c =
     let l : Cell c.args.card c.forth-i_l.result c.forth-j_l.result = cell_l c.requires c.forth-i_l.ensures c.forth-j_l.ensures in
-    let d = c in ground_in_lem d.requires.flowing l
+    ground_in_lem c.requires.flowing l
 
 pub face_at-requires : goal.face_at-requires
 face_at-requires c =
     let l : Cell c.args.card c.forth-i_l.result c.forth-j_l.result = cell_l c.requires c.forth-i_l.ensures c.forth-j_l.ensures in
-    let d = c in in_tide d.requires.flowing (near_in _ l)
+    in_tide c.requires.flowing (near_in _ l)
 
 pub far-requires : goal.far-requires
 far-requires c =
     let l : Cell c.args.card c.forth-i_l.result c.forth-j_l.result = cell_l c.requires c.forth-i_l.ensures c.forth-j_l.ensures in
-    let d = c in in_tide d.requires.flowing (far_in _ l)
+    in_tide c.requires.flowing (far_in _ l)
 
 pub face_at-requires-2 : goal.face_at-requires-2
-face_at-requires-2 c = let d = c in in_tide d.requires.flowing (near_in _ (cell_k d.requires))
+face_at-requires-2 c = in_tide c.requires.flowing (near_in _ (cell_k c.requires))
 
 pub far-requires-2 : goal.far-requires-2
-far-requires-2 c = let d = c in in_tide d.requires.flowing (far_in _ (cell_k d.requires))
+far-requires-2 c = in_tide c.requires.flowing (far_in _ (cell_k c.requires))
 
 pub far-requires-3 : goal.far-requires-3
 far-requires-3 c =
     let l : Cell c.args.card c.forth-i_l.result c.forth-j_l.result = cell_l c.requires c.forth-i_l.ensures c.forth-j_l.ensures in
-    let d = c in in_tide d.requires.flowing (far_in _ l)
+    in_tide c.requires.flowing (far_in _ l)
 
 pub face_at-requires-3 : goal.face_at-requires-3
-face_at-requires-3 c = let d = c in in_tide d.requires.flowing (near_in _ (cell_k d.requires))
+face_at-requires-3 c = in_tide c.requires.flowing (near_in _ (cell_k c.requires))
 
 pub face_at-requires-4 : goal.face_at-requires-4
 face_at-requires-4 c =
     let l : Cell c.args.card c.forth-i_l.result c.forth-j_l.result = cell_l c.requires c.forth-i_l.ensures c.forth-j_l.ensures in
-    let d = c in in_tide d.requires.flowing (near_in _ l)
+    in_tide c.requires.flowing (near_in _ l)
 
 pub face_at-requires-5 : goal.face_at-requires-5
 face_at-requires-5 c =
     let l : Cell c.args.card c.forth-i_l.result c.forth-j_l.result = cell_l c.requires c.forth-i_l.ensures c.forth-j_l.ensures in
-    let d = c in face_place (sound_of d.requires.flowing) (near_in _ l)
+    face_place (sound_of c.requires.flowing) (near_in _ l)
 
 pub far-requires-4 : goal.far-requires-4
 far-requires-4 c =
     let l : Cell c.args.card c.forth-i_l.result c.forth-j_l.result = cell_l c.requires c.forth-i_l.ensures c.forth-j_l.ensures in
-    let d = c in face_place (sound_of d.requires.flowing) (far_in _ l)
+    face_place (sound_of c.requires.flowing) (far_in _ l)
 
 pub face_at-requires-6 : goal.face_at-requires-6
-face_at-requires-6 c = let d = c in face_place (sound_of d.requires.flowing) (near_in _ (cell_k d.requires))
+face_at-requires-6 c = face_place (sound_of c.requires.flowing) (near_in _ (cell_k c.requires))
 
 pub returns : goal.returns
 unfolding gathered_face
 returns c =
     let l : Cell c.args.card c.forth-i_l.result c.forth-j_l.result = cell_l c.requires c.forth-i_l.ensures c.forth-j_l.ensures in
-    let at_u_ahead = c in
-    let at_u = at_u_ahead in
-    let at_below_l = at_u in
-    let at_below_k = at_below_l in
-    let at_above_l = at_below_k in
-    let at_above_k = at_above_l in
-    let at_behind = at_above_k in
-    let at_ahead = at_behind in
-    let at_own = at_ahead in
-    let at_ground_l = at_own in
-    let at_ground_k = at_ground_l in
-    let at_new_l = at_ground_k in
-    let at_new_k = at_new_l in
+    let at_new_k = c in
     let at_old_l = at_new_k in
     let at_old_k = at_old_l in
     let at_u_below = at_old_k in
@@ -133,18 +122,18 @@ returns c =
       old_k = word_is at_old_k.word.result at_old_k.word.type_inv (at_old_k.word.ensures ∙ height_read a.card a.state.now a.i a.j) x;
       old_l = word_is at_old_l.word-2.result at_old_l.word-2.type_inv (at_old_l.word-2.ensures ∙ height_read a.card a.state.now d.forth-i_l.result d.forth-j_l.result) x;
       new_k = word_is at_new_k.word-3.result at_new_k.word-3.type_inv (at_new_k.word-3.ensures ∙ new_is f k) x;
-      new_l = word_is at_new_l.word-4.result at_new_l.word-4.type_inv (at_new_l.word-4.ensures ∙ new_is f l) x;
-      ground_k = word_is at_ground_k.word-5.result at_ground_k.word-5.type_inv (at_ground_k.word-5.ensures ∙ ground_is f k) x;
-      ground_l = word_is at_ground_l.word-6.result at_ground_l.word-6.type_inv (at_ground_l.word-6.ensures ∙ ground_is f l) x;
-      own = word_is at_own.face_at.result at_own.face_at.type_inv (at_own.face_at.ensures ∙ crossed_is f _ (near_in _ l)) x;
-      ahead = word_is at_ahead.far.result at_ahead.far.type_inv (at_ahead.far.ensures ∙ crossed_is f _ (far_in _ l)) x;
-      behind = word_is at_behind.face_at-2.result at_behind.face_at-2.type_inv (at_behind.face_at-2.ensures ∙ crossed_is f _ (near_in _ k)) x;
-      above_k = word_is at_above_k.far-2.result at_above_k.far-2.type_inv (at_above_k.far-2.ensures ∙ crossed_is f _ (far_in _ k)) x;
-      above_l = word_is at_above_l.far-3.result at_above_l.far-3.type_inv (at_above_l.far-3.ensures ∙ crossed_is f _ (far_in _ l)) x;
-      below_k = word_is at_below_k.face_at-3.result at_below_k.face_at-3.type_inv (at_below_k.face_at-3.ensures ∙ crossed_is f _ (near_in _ k)) x;
-      below_l = word_is at_below_l.face_at-4.result at_below_l.face_at-4.type_inv (at_below_l.face_at-4.ensures ∙ crossed_is f _ (near_in _ l)) x;
-      u = word_is at_u.face_at-5.result at_u.face_at-5.type_inv at_u.face_at-5.ensures x;
-      u_ahead = word_is at_u_ahead.far-4.result at_u_ahead.far-4.type_inv at_u_ahead.far-4.ensures x;
+      new_l = word_is c.word-4.result c.word-4.type_inv (c.word-4.ensures ∙ new_is f l) x;
+      ground_k = word_is c.word-5.result c.word-5.type_inv (c.word-5.ensures ∙ ground_is f k) x;
+      ground_l = word_is c.word-6.result c.word-6.type_inv (c.word-6.ensures ∙ ground_is f l) x;
+      own = word_is c.face_at.result c.face_at.type_inv (c.face_at.ensures ∙ crossed_is f _ (near_in _ l)) x;
+      ahead = word_is c.far.result c.far.type_inv (c.far.ensures ∙ crossed_is f _ (far_in _ l)) x;
+      behind = word_is c.face_at-2.result c.face_at-2.type_inv (c.face_at-2.ensures ∙ crossed_is f _ (near_in _ k)) x;
+      above_k = word_is c.far-2.result c.far-2.type_inv (c.far-2.ensures ∙ crossed_is f _ (far_in _ k)) x;
+      above_l = word_is c.far-3.result c.far-3.type_inv (c.far-3.ensures ∙ crossed_is f _ (far_in _ l)) x;
+      below_k = word_is c.face_at-3.result c.face_at-3.type_inv (c.face_at-3.ensures ∙ crossed_is f _ (near_in _ k)) x;
+      below_l = word_is c.face_at-4.result c.face_at-4.type_inv (c.face_at-4.ensures ∙ crossed_is f _ (near_in _ l)) x;
+      u = word_is c.face_at-5.result c.face_at-5.type_inv c.face_at-5.ensures x;
+      u_ahead = word_is c.far-4.result c.far-4.type_inv c.far-4.ensures x;
       u_behind = word_is c.face_at-6.result c.face_at-6.type_inv c.face_at-6.ensures x;
       u_above = word_is at_u_above.above-above.result at_u_above.above-above.type_inv at_u_above.above-above.ensures x;
       u_below = word_is at_u_below.below-below.result at_u_below.below-below.type_inv at_u_below.below-below.ensures x;

@@ -17,54 +17,51 @@ use Rattle.around.proofs.levels.still_face.Goals as goal
 pub forth-i_l-requires : goal.forth-i_l-requires
 forth-i_l-requires c =
     let k : Cell c.args.card c.args.i c.args.j = behind c.args.east _ _ c.requires.column c.requires.row in
-    let s = c in omega (arith, k.column, s.requires.card.columns_high)
+    omega (arith, k.column, c.requires.card.columns_high)
 
 pub forth-j_l-requires : goal.forth-j_l-requires
 forth-j_l-requires c =
     let k : Cell c.args.card c.args.i c.args.j = behind c.args.east _ _ c.requires.column c.requires.row in
-    let s = c in omega (arith, k.row, s.requires.card.rows_high)
+    omega (arith, k.row, c.requires.card.rows_high)
 
 pub height_at-requires : goal.height_at-requires
 height_at-requires c =
     let k : Cell c.args.card c.args.i c.args.j = behind c.args.east _ _ c.requires.column c.requires.row in
     let l : Cell c.args.card c.forth-i_l.result c.forth-j_l.result = beyond c.args.east _ _ c.requires.column c.requires.row c.forth-i_l.ensures c.forth-j_l.ensures in
     let tide_in : (m n : ℕ) → Cell c.args.card m n → HeightPlace c.args.card c.args.tide.now m n = (λ m n h. record { long = c.requires.tide; column = h.column; row = h.row }) in
-    let s = c in search (tide_in, k, l)
+    search (tide_in, k, l)
 
 pub height_at-requires-2 : goal.height_at-requires-2
 height_at-requires-2 c =
     let k : Cell c.args.card c.args.i c.args.j = behind c.args.east _ _ c.requires.column c.requires.row in
     let l : Cell c.args.card c.forth-i_l.result c.forth-j_l.result = beyond c.args.east _ _ c.requires.column c.requires.row c.forth-i_l.ensures c.forth-j_l.ensures in
     let tide_in : (m n : ℕ) → Cell c.args.card m n → HeightPlace c.args.card c.args.tide.now m n = (λ m n h. record { long = c.requires.tide; column = h.column; row = h.row }) in
-    let d = c in search (tide_in, k, l)
+    search (tide_in, k, l)
 
 pub word-requires : goal.word-requires
 word-requires c =
     let k : Cell c.args.card c.args.i c.args.j = behind c.args.east _ _ c.requires.column c.requires.row in
     let ground_in : (m n : ℕ) → Cell c.args.card m n → 0 + (n * c.args.card.columns + m) < length c.args.land.now = (λ m n h. omega (arith, c.requires.land, digits_lt h.row h.column)) in
-    let s = c in ground_in _ _ k
+    ground_in _ _ k
 
 pub word-requires-2 : goal.word-requires-2
 word-requires-2 c =
     let l : Cell c.args.card c.forth-i_l.result c.forth-j_l.result = beyond c.args.east _ _ c.requires.column c.requires.row c.forth-i_l.ensures c.forth-j_l.ensures in
     let ground_in : (m n : ℕ) → Cell c.args.card m n → 0 + (n * c.args.card.columns + m) < length c.args.land.now = (λ m n h. omega (arith, c.requires.land, digits_lt h.row h.column)) in
-    let d = c in ground_in _ _ l
+    ground_in _ _ l
 
 pub returns : goal.returns
 unfolding still_face
-returns c = let at_ground_k = c in
-    let at_new_l = at_ground_k in
-    let at_new_k = at_new_l in
-    let d = at_new_k in
-    let a = d.args in
-    rw (← d.forth-i_l.ensures, ← d.forth-j_l.ensures)
+returns c =
+    let a = c.args in
+    rw (← c.forth-i_l.ensures, ← c.forth-j_l.ensures)
     (λ x. record {
       old_k = pos 0;
       old_l = pos 0;
-      new_k = word_is at_new_k.height_at.result at_new_k.height_at.type_inv at_new_k.height_at.ensures x;
-      new_l = word_is at_new_l.height_at-2.result at_new_l.height_at-2.type_inv at_new_l.height_at-2.ensures x;
-      ground_k = word_is at_ground_k.word.result at_ground_k.word.type_inv (at_ground_k.word.ensures ∙ ground_read a.card a.land.now a.i a.j) x;
-      ground_l = word_is c.word-2.result c.word-2.type_inv (c.word-2.ensures ∙ ground_read a.card a.land.now d.forth-i_l.result d.forth-j_l.result) x;
+      new_k = word_is c.height_at.result c.height_at.type_inv c.height_at.ensures x;
+      new_l = word_is c.height_at-2.result c.height_at-2.type_inv c.height_at-2.ensures x;
+      ground_k = word_is c.word.result c.word.type_inv (c.word.ensures ∙ ground_read a.card a.land.now a.i a.j) x;
+      ground_l = word_is c.word-2.result c.word-2.type_inv (c.word-2.ensures ∙ ground_read a.card a.land.now c.forth-i_l.result c.forth-j_l.result) x;
       own = pos 0;
       ahead = pos 0;
       behind = pos 0;

@@ -20,14 +20,14 @@ back-requires-then-pick-gt0 c =
     (picked _ _ _ there).0
 
 pub face_at-requires : goal.face_at-requires
-face_at-requires c = let p = c.requires in
+face_at-requires c =
+    let p = c.requires in
     record { card = p.card; long = p.long; face = rw (c.back.ensures, c.back-then-pick-gt0.ensures) (below_in _ p.face) }
 
 pub returns-then-pick-gt0 : goal.returns-then-pick-gt0
 returns-then-pick-gt0 c =
     let there : let a = c.args in 0 < cond a.east a.j a.i = rw c.pick.ensures at c.if-pick-gt0.true in
     let n = c.face_at in
-    let then = c in
     word_is n.result n.type_inv
     (n.ensures ∙ rw (c.back.ensures, c.back-then-pick-gt0.ensures) (sym (below_is _ _ _ _ ∙ rw (lt-ltb _ _ there))))
 

@@ -12,8 +12,9 @@ pub forth-requires : goal.forth-requires
 forth-requires c = omega (arith, (in_range _ c.requires).0, forth_more c.args.east c.args.i)
 
 pub forth-requires-2 : goal.forth-requires-2
-forth-requires-2 c = let start = c in omega (arith, (in_range _ start.requires).1, forth_more (not start.args.east) start.args.j)
+forth-requires-2 c = omega (arith, (in_range _ c.requires).1, forth_more (not c.args.east) c.args.j)
 
 pub returns : goal.returns
-returns c = let n = c.face_at in
+returns c =
+    let n = c.face_at in
     word_is n.result n.type_inv (n.ensures ∙ rw (c.forth.ensures, c.forth-2.ensures))

@@ -18,10 +18,10 @@ bounds-marks-j c = omega (arith, c.requires.marked.room)
 
 -- a still row is passed over
 pub look-preserved-then-marks-j : goal.look-preserved-then-marks-j
-look-preserved-then-marks-j c = let d = c in
-    let h = d.look-test.true in
-    let still : CellsStill _ _ _ = record { cells = sym (d.requires.marked.is _ h) ∙ c.if-marks-j.true } in
-    whole_row d.look.invariant h (λ i k. still_within still i (record { column = k; row = h }))
+look-preserved-then-marks-j c =
+    let h = c.look-test.true in
+    let still : CellsStill _ _ _ = record { cells = sym (c.requires.marked.is _ h) ∙ c.if-marks-j.true } in
+    whole_row c.look.invariant h (λ i k. still_within still i (record { column = k; row = h }))
 
 pub loop-i-init : goal.loop-i-init
 loop-i-init c = begin_row c.look.invariant

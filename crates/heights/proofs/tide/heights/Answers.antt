@@ -17,34 +17,31 @@ pub loop-i-init : goal.loop-i-init
 loop-i-init c = begin_row c.loop-j.invariant
 
 pub new_height-requires : goal.new_height-requires
-new_height-requires c = let d = c in
-    let rows = d in
-    let p = rows.requires in
-    let cells = d.loop-i.invariant in
+new_height-requires c =
+    let p = c.requires in
+    let cells = c.loop-i.invariant in
     record {
       lists = record {
         limited = p.limited;
-        long = cells.same ∙ rows.loop-j.invariant.same ∙ p.long;
-        crossed = cells.rest ∙ rows.loop-j.invariant.rest ∙ p.crossed;
+        long = cells.same ∙ c.loop-j.invariant.same ∙ p.long;
+        crossed = cells.rest ∙ c.loop-j.invariant.rest ∙ p.crossed;
       };
-      column = d.loop-i-test.true;
-      row = d.loop-j-test.true;
+      column = c.loop-i-test.true;
+      row = c.loop-j-test.true;
     }
 
 pub put-requires : goal.put-requires
-put-requires c = let d = c in
-    place d.loop-i.invariant d.loop-j-test.true d.loop-i-test.true
+put-requires c = place c.loop-i.invariant c.loop-j-test.true c.loop-i-test.true
 
 pub loop-i-preserved : goal.loop-i-preserved
-loop-i-preserved c = let g = c in
-    let d = g in
-    more d.loop-i.invariant d.loop-j-test.true d.loop-i-test.true c.put.ensures
-    (word_is g.new_height.result g.new_height.type_inv g.new_height.ensures)
+loop-i-preserved c = more c.loop-i.invariant c.loop-j-test.true c.loop-i-test.true c.put.ensures
+    (word_is c.new_height.result c.new_height.type_inv c.new_height.ensures)
 
 pub loop-j-preserved : goal.loop-j-preserved
 loop-j-preserved c = more_rows c.loop-j.invariant c.loop-i.invariant c.loop-j-test.true c.loop-i-test.false
 
 pub returns : goal.returns
 unfolding write_state tide crossings
-returns c = let p = c.requires in
+returns c =
+    let p = c.requires in
     record { is = done_front c.loop-j.invariant c.loop-j-test.false ∙ rw p.crossed }

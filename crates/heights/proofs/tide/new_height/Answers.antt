@@ -18,7 +18,8 @@ use Rattle.heights.proofs.Tides.{crossing}
 use Rattle.heights.proofs.tide.new_height.Goals as goal
 
 pub cell_at-cell-requires : goal.cell_at-cell-requires
-cell_at-cell-requires c = let p = c.requires in
+cell_at-cell-requires c =
+    let p = c.requires in
     let f = facts p.lists.limited.sound in
     record { card = f.card; heights = omega (arith, f.lengths.state, p.lists.long); faces = p.lists.long; column = p.column; row = p.row }
 
@@ -34,15 +35,15 @@ new_height-requires c =
     let east : cell.east ≡ east_transfer c.args.card w (suc c.args.i) c.args.j = let p = c.requires in ap (λ (x : Cell). x.east) is ∙ crossing p.lists true _ _ (record { column = omega (arith, p.column); row = p.row }) in
     let south : cell.south ≡ north_transfer c.args.card w c.args.i c.args.j = let p = c.requires in ap (λ (x : Cell). x.south) is ∙ crossing p.lists false _ _ (record { column = p.column; row = omega (arith, p.row) }) in
     let north : cell.north ≡ north_transfer c.args.card w c.args.i (suc c.args.j) = let p = c.requires in ap (λ (x : Cell). x.north) is ∙ crossing p.lists false _ _ (record { column = p.column; row = omega (arith, p.row) }) in
-    let over-east : (i : ℕ) → i ≤ suc c.args.i → Within 50000000 (east_transfer c.args.card w i c.args.j) = (λ i h. let p = c.requires in crossed p.lists.limited true i _ (record { column = omega (arith, p.column); row = p.row })) in
-    let over-north : (j : ℕ) → j ≤ suc c.args.j → Within 50000000 (north_transfer c.args.card w c.args.i j) = (λ j h. let p = c.requires in crossed p.lists.limited false _ j (record { column = p.column; row = omega (arith, p.row) })) in
+    let over_east : (i : ℕ) → i ≤ suc c.args.i → Within 50000000 (east_transfer c.args.card w i c.args.j) = (λ i h. let p = c.requires in crossed p.lists.limited true i _ (record { column = omega (arith, p.column); row = p.row })) in
+    let over_north : (j : ℕ) → j ≤ suc c.args.j → Within 50000000 (north_transfer c.args.card w c.args.i j) = (λ j h. let p = c.requires in crossed p.lists.limited false _ j (record { column = p.column; row = omega (arith, p.row) })) in
     let p = c.requires in
     record {
       height = subst Height (sym height) (height_fits_lem p.lists.limited.sound _ _ p.column p.row);
-      west = small_within cell.west west (over-east _ (omega arith)) tt;
-      east = small_within cell.east east (over-east _ (omega arith)) tt;
-      south = small_within cell.south south (over-north _ (omega arith)) tt;
-      north = small_within cell.north north (over-north _ (omega arith)) tt;
+      west = small_within cell.west west (over_east _ (omega arith)) tt;
+      east = small_within cell.east east (over_east _ (omega arith)) tt;
+      south = small_within cell.south south (over_north _ (omega arith)) tt;
+      north = small_within cell.north north (over_north _ (omega arith)) tt;
     }
 
 pub returns : goal.returns
@@ -57,15 +58,14 @@ returns c =
     let east : cell.east ≡ east_transfer c.args.card w (suc c.args.i) c.args.j = let p = c.requires in ap (λ (x : Cell). x.east) is ∙ crossing p.lists true _ _ (record { column = omega (arith, p.column); row = p.row }) in
     let south : cell.south ≡ north_transfer c.args.card w c.args.i c.args.j = let p = c.requires in ap (λ (x : Cell). x.south) is ∙ crossing p.lists false _ _ (record { column = p.column; row = omega (arith, p.row) }) in
     let north : cell.north ≡ north_transfer c.args.card w c.args.i (suc c.args.j) = let p = c.requires in ap (λ (x : Cell). x.north) is ∙ crossing p.lists false _ _ (record { column = p.column; row = omega (arith, p.row) }) in
-    let over-east : (i : ℕ) → i ≤ suc c.args.i → Within 50000000 (east_transfer c.args.card w i c.args.j) = (λ i h. let p = c.requires in crossed p.lists.limited true i _ (record { column = omega (arith, p.column); row = p.row })) in
-    let over-north : (j : ℕ) → j ≤ suc c.args.j → Within 50000000 (north_transfer c.args.card w c.args.i j) = (λ j h. let p = c.requires in crossed p.lists.limited false _ j (record { column = p.column; row = omega (arith, p.row) })) in
-    let d = c in
+    let over_east : (i : ℕ) → i ≤ suc c.args.i → Within 50000000 (east_transfer c.args.card w i c.args.j) = (λ i h. let p = c.requires in crossed p.lists.limited true i _ (record { column = omega (arith, p.column); row = p.row })) in
+    let over_north : (j : ℕ) → j ≤ suc c.args.j → Within 50000000 (north_transfer c.args.card w c.args.i j) = (λ j h. let p = c.requires in crossed p.lists.limited false _ j (record { column = p.column; row = omega (arith, p.row) })) in
     word_is c.new_height.result c.new_height.type_inv
     (c.new_height.ensures
     ∙ rw (
       height,
-      small_is cell.west west (over-east _ (omega arith)) tt,
-      small_is cell.east east (over-east _ (omega arith)) tt,
-      small_is cell.south south (over-north _ (omega arith)) tt,
-      small_is cell.north north (over-north _ (omega arith)) tt,
+      small_is cell.west west (over_east _ (omega arith)) tt,
+      small_is cell.east east (over_east _ (omega arith)) tt,
+      small_is cell.south south (over_north _ (omega arith)) tt,
+      small_is cell.north north (over_north _ (omega arith)) tt,
     ))

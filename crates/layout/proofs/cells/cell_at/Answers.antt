@@ -28,7 +28,8 @@ face_at-requires-4 c = let p = c.requires in record { card = p.card; long = p.fa
 
 pub returns : goal.returns
 unfolding cell_at speeds
-returns c = let a = c.args in
+returns c =
+    let a = c.args in
     let height = c.height_at in
     let west = c.face_at in
     let east = c.face_at-2 in

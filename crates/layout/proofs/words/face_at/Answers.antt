@@ -9,7 +9,8 @@ pub first-first-requires : goal.first-first-requires
 first-first-requires c = c.requires.card
 
 pub word-requires : goal.word-requires
-word-requires c = let p = c.requires in
+word-requires c =
+    let p = c.requires in
     rw (c.first-first.ensures, c.wide-wide.ensures) (face_in _ _ p.long p.face)
 
 pub returns : goal.returns

@@ -24,14 +24,14 @@ pub bounds-land-j : goal.bounds-land-j
 bounds-land-j c = place_long c.args.card c.args.land.now c.requires.0
 
 pub put_value-end-requires : goal.put_value-end-requires
-put_value-end-requires c = let s = c in rw (cell_read c.args.card c.args.land.now c.requires.0) (cell_small c.args.card c.args.land.now c.requires.0, omega (arith, s.requires.1, length_cell s.args.card s.args.land.now s.args.i s.args.j))
+put_value-end-requires c = rw (cell_read c.args.card c.args.land.now c.requires.0) (cell_small c.args.card c.args.land.now c.requires.0, omega (arith, c.requires.1, length_cell c.args.card c.args.land.now c.args.i c.args.j))
 
 pub bounds-out-end : goal.bounds-out-end
-bounds-out-end c = let s = c in let p = appended_same (ap signed_metres (cell_read c.args.card c.args.land.now c.requires.0)) c.put_value-end.ensures in let long = s.requires.1 in let all = length_cell s.args.card s.args.land.now s.args.i s.args.j in omega (arith, p.stop, long, all, appended_length p (omega (arith, p.stop, long, all)))
+bounds-out-end c = let p = appended_same (ap signed_metres (cell_read c.args.card c.args.land.now c.requires.0)) c.put_value-end.ensures in let long = c.requires.1 in let all = length_cell c.args.card c.args.land.now c.args.i c.args.j in omega (arith, p.stop, long, all, appended_length p (omega (arith, p.stop, long, all)))
 
 pub overflow_add-result : goal.overflow_add-result
-overflow_add-result c = let s = c in let p = appended_same (ap signed_metres (cell_read c.args.card c.args.land.now c.requires.0)) c.put_value-end.ensures in let long = s.requires.1 in let all = length_cell s.args.card s.args.land.now s.args.i s.args.j in omega (arith, p.stop, long, all)
+overflow_add-result c = let p = appended_same (ap signed_metres (cell_read c.args.card c.args.land.now c.requires.0)) c.put_value-end.ensures in let long = c.requires.1 in let all = length_cell c.args.card c.args.land.now c.args.i c.args.j in omega (arith, p.stop, long, all)
 
 pub returns : goal.returns
 unfolding cell_text read_ground
-returns c = let s = c in let p = appended_same (ap signed_metres (cell_read c.args.card c.args.land.now c.requires.0)) c.put_value-end.ensures in let long = s.requires.1 in let all = length_cell s.args.card s.args.land.now s.args.i s.args.j in appended_same (ap (λ (k : ℕ). signed_metres (read_ground s.args.card s.args.land.now s.args.i s.args.j) ++ (k ∷ [])) c.behind.ensures) (next_byte c.put_value-end.result c.behind.result p refl (omega (arith, p.stop, long, all)))
+returns c = let p = appended_same (ap signed_metres (cell_read c.args.card c.args.land.now c.requires.0)) c.put_value-end.ensures in let long = c.requires.1 in let all = length_cell c.args.card c.args.land.now c.args.i c.args.j in appended_same (ap (λ (k : ℕ). signed_metres (read_ground c.args.card c.args.land.now c.args.i c.args.j) ++ (k ∷ [])) c.behind.ensures) (next_byte c.put_value-end.result c.behind.result p refl (omega (arith, p.stop, long, all)))

@@ -14,10 +14,10 @@ use Rattle.raster_writer.proofs.Lengths.{length-signed}
 use Rattle.raster_writer.proofs.metres.put_value.Goals as goal
 
 pub put_sign-start-requires : goal.put_sign-start-requires
-put_sign-start-requires c = let s = c in rw (to_z-of_z s.ranges.z) (omega (arith, s.requires.1, length-signed s.args.z))
+put_sign-start-requires c = rw (to_z-of_z c.ranges.z) (omega (arith, c.requires.1, length-signed c.args.z))
 
 pub put_metres-requires : goal.put_metres-requires
-put_metres-requires c = let s = c in let told = to_z-of_z s.ranges.z in let p = appended_same (ap minus_text told) c.put_sign-start.ensures in let n : c.size.result ≡ nat_abs s.args.z = c.size.ensures ∙ ap nat_abs told in let long = s.requires.1 in let all = length-signed s.args.z in let size = ap (λ (k : ℕ). length (metres k)) n in (omega (arith, n, s.requires.0), omega (arith, p.stop, long, all, size, appended_length p (omega (arith, p.stop, long, all))))
+put_metres-requires c = let told = to_z-of_z c.ranges.z in let p = appended_same (ap minus_text told) c.put_sign-start.ensures in let n : c.size.result ≡ nat_abs c.args.z = c.size.ensures ∙ ap nat_abs told in let long = c.requires.1 in let all = length-signed c.args.z in let size = ap (λ (k : ℕ). length (metres k)) n in (omega (arith, n, c.requires.0), omega (arith, p.stop, long, all, size, appended_length p (omega (arith, p.stop, long, all))))
 
 pub returns : goal.returns
-returns c = let s = c in let told = to_z-of_z s.ranges.z in let p = appended_same (ap minus_text told) c.put_sign-start.ensures in let n : c.size.result ≡ nat_abs s.args.z = c.size.ensures ∙ ap nat_abs told in let long = s.requires.1 in let all = length-signed s.args.z in let size = ap (λ (k : ℕ). length (metres k)) n in appended_same (ap (λ (k : ℕ). minus_text s.args.z ++ metres k) n ∙ signed_apart s.args.z) (appended_more p c.put_metres.ensures (omega (arith, p.stop, long, all)))
+returns c = let told = to_z-of_z c.ranges.z in let p = appended_same (ap minus_text told) c.put_sign-start.ensures in let n : c.size.result ≡ nat_abs c.args.z = c.size.ensures ∙ ap nat_abs told in let long = c.requires.1 in let all = length-signed c.args.z in let size = ap (λ (k : ℕ). length (metres k)) n in appended_same (ap (λ (k : ℕ). minus_text c.args.z ++ metres k) n ∙ signed_apart c.args.z) (appended_more p c.put_metres.ensures (omega (arith, p.stop, long, all)))

@@ -11,13 +11,13 @@ use Rattle.raster_writer.proofs.Lengths.{length-signed, metres_most}
 use Rattle.raster_writer.proofs.metres.value_size.Goals as goal
 
 pub metres_size-size-requires : goal.metres_size-size-requires
-metres_size-size-requires c = let s = c in omega (arith, c.size.ensures ∙ ap nat_abs (to_z-of_z s.ranges.z), s.requires)
+metres_size-size-requires c = omega (arith, c.size.ensures ∙ ap nat_abs (to_z-of_z c.ranges.z), c.requires)
 
 pub overflow_add-result : goal.overflow_add-result
-overflow_add-result c = let s = c in let told = to_z-of_z s.ranges.z in let m : c.metres_size-size.result ≡ length (metres (nat_abs s.args.z)) = c.metres_size-size.ensures ∙ ap (λ (k : ℕ). length (metres k)) (c.size.ensures ∙ ap nat_abs told) in omega (arith, m, metres_most (nat_abs s.args.z) (omega (arith, s.requires)))
+overflow_add-result c = let told = to_z-of_z c.ranges.z in let m : c.metres_size-size.result ≡ length (metres (nat_abs c.args.z)) = c.metres_size-size.ensures ∙ ap (λ (k : ℕ). length (metres k)) (c.size.ensures ∙ ap nat_abs told) in omega (arith, m, metres_most (nat_abs c.args.z) (omega (arith, c.requires)))
 
 pub returns-then-z-lt0 : goal.returns-then-z-lt0
-returns-then-z-lt0 c = let s = c in let told = to_z-of_z s.ranges.z in let m : c.metres_size-size.result ≡ length (metres (nat_abs s.args.z)) = c.metres_size-size.ensures ∙ ap (λ (k : ℕ). length (metres k)) (c.size.ensures ∙ ap nat_abs told) in omega (arith, m, length-signed s.args.z, ap length (minus_below s.args.z (rw told at c.if-z-lt0.true)))
+returns-then-z-lt0 c = let told = to_z-of_z c.ranges.z in let m : c.metres_size-size.result ≡ length (metres (nat_abs c.args.z)) = c.metres_size-size.ensures ∙ ap (λ (k : ℕ). length (metres k)) (c.size.ensures ∙ ap nat_abs told) in omega (arith, m, length-signed c.args.z, ap length (minus_below c.args.z (rw told at c.if-z-lt0.true)))
 
 pub returns : goal.returns
-returns c = let s = c in let told = to_z-of_z s.ranges.z in let m : c.metres_size-size.result ≡ length (metres (nat_abs s.args.z)) = c.metres_size-size.ensures ∙ ap (λ (k : ℕ). length (metres k)) (c.size.ensures ∙ ap nat_abs told) in omega (arith, m, length-signed s.args.z, ap length (minus_not s.args.z (rw told at c.if-z-lt0.false)))
+returns c = let told = to_z-of_z c.ranges.z in let m : c.metres_size-size.result ≡ length (metres (nat_abs c.args.z)) = c.metres_size-size.ensures ∙ ap (λ (k : ℕ). length (metres k)) (c.size.ensures ∙ ap nat_abs told) in omega (arith, m, length-signed c.args.z, ap length (minus_not c.args.z (rw told at c.if-z-lt0.false)))

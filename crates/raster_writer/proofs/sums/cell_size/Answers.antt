@@ -24,7 +24,7 @@ pub value_size-requires : goal.value_size-requires
 value_size-requires c = rw (cell_read c.args.card c.args.land.now c.requires) (cell_small c.args.card c.args.land.now c.requires)
 
 pub overflow_add-result : goal.overflow_add-result
-overflow_add-result c = let s = c in let v : c.value_size.result ≡ length (signed_metres (read_ground s.args.card s.args.land.now s.args.i s.args.j)) = c.value_size.ensures ∙ ap (λ (z : ℤ). length (signed_metres z)) (cell_read c.args.card c.args.land.now c.requires) in let all = length_cell s.args.card s.args.land.now s.args.i s.args.j in let most = cell_most c.args.card c.args.land.now c.requires in omega (arith, v, all, most)
+overflow_add-result c = let v : c.value_size.result ≡ length (signed_metres (read_ground c.args.card c.args.land.now c.args.i c.args.j)) = c.value_size.ensures ∙ ap (λ (z : ℤ). length (signed_metres z)) (cell_read c.args.card c.args.land.now c.requires) in let all = length_cell c.args.card c.args.land.now c.args.i c.args.j in let most = cell_most c.args.card c.args.land.now c.requires in omega (arith, v, all, most)
 
 pub returns : goal.returns
-returns c = let s = c in let v : c.value_size.result ≡ length (signed_metres (read_ground s.args.card s.args.land.now s.args.i s.args.j)) = c.value_size.ensures ∙ ap (λ (z : ℤ). length (signed_metres z)) (cell_read c.args.card c.args.land.now c.requires) in let all = length_cell s.args.card s.args.land.now s.args.i s.args.j in let most = cell_most c.args.card c.args.land.now c.requires in (omega (arith, v, all), omega (arith, v, all, most))
+returns c = let v : c.value_size.result ≡ length (signed_metres (read_ground c.args.card c.args.land.now c.args.i c.args.j)) = c.value_size.ensures ∙ ap (λ (z : ℤ). length (signed_metres z)) (cell_read c.args.card c.args.land.now c.requires) in let all = length_cell c.args.card c.args.land.now c.args.i c.args.j in let most = cell_most c.args.card c.args.land.now c.requires in (omega (arith, v, all), omega (arith, v, all, most))

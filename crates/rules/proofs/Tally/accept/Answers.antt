@@ -1,5 +1,5 @@
 -- `accept`: the top is the greater of two, whichever way the test went.
-use Rattle.std.proofs.Common.{◌≡◌, ℕ, ◌+◌, Bool, true, false, cond, sym, ap, ℤ, rules, to_z, of_z, w32, FitsSigned}
+use Rattle.std.proofs.Common.{◌≡◌, ℕ, ◌+◌, Bool, true, false, cond, sym, ap, ℤ, rules, w32, FitsSigned}
 use Rattle.std.specs.Int.Signed.{le_z}
 use mir.Facts.{to_z-of_z}
 use Rattle.rules.specs.declared.Tally.{Tally}

@@ -22,8 +22,7 @@ card_in-card-requires c =
 pub returns-then-not-card_fits : goal.returns-then-not-card_fits
 returns-then-not-card_fits c =
     let head : head_fits c.args.sheet.now ≡ true = sym c.head_fits.ensures ∙ c.if-not-head_fits.false in
-    let k = c in
-    front_1 _ _ _ head (ap card_fits (sym k.card_in-card.ensures) ∙ sym c.card_fits.ensures ∙ c.if-not-card_fits.true)
+    front_1 _ _ _ head (ap card_fits (sym c.card_in-card.ensures) ∙ sym c.card_fits.ensures ∙ c.if-not-card_fits.true)
 
 pub sheet_size-requires : goal.sheet_size-requires
 sheet_size-requires c =
@@ -46,10 +45,7 @@ returns-then-fits c =
     let head : head_fits c.args.sheet.now ≡ true = sym c.head_fits.ensures ∙ c.if-not-head_fits.false in
     let carded : card_fits c.card_in-card.result ≡ true = sym c.card_fits.ensures ∙ c.if-not-card_fits.false in
     let card : card_fits (card_in c.args.sheet.now) ≡ true = ap card_fits (sym c.card_in-card.ensures) ∙ carded in
-    let lengths : (eqb (length c.args.sheet.now) c.sheet_size.result && eqb c.args.n c.cells.result && eqb c.args.m c.state_length.result) ≡ sheet_lengths_fit c.args.sheet.now c.args.n c.args.m = let q = c in
-    let p = q in
-    cc (c.state_length.ensures.0, q.cells.ensures.0, p.sheet_size.ensures.0, p.card_in-card.ensures) in
-    let e = c in
+    let lengths : (eqb (length c.args.sheet.now) c.sheet_size.result && eqb c.args.n c.cells.result && eqb c.args.m c.state_length.result) ≡ sheet_lengths_fit c.args.sheet.now c.args.n c.args.m = cc (c.state_length.ensures.0, c.cells.ensures.0, c.sheet_size.ensures.0, c.card_in-card.ensures) in
     front_0 _ _ _ head card (sym lengths ∙ c.if-fits.true)
 
 pub returns : goal.returns
@@ -58,8 +54,5 @@ returns c =
     let head : head_fits c.args.sheet.now ≡ true = sym c.head_fits.ensures ∙ c.if-not-head_fits.false in
     let carded : card_fits c.card_in-card.result ≡ true = sym c.card_fits.ensures ∙ c.if-not-card_fits.false in
     let card : card_fits (card_in c.args.sheet.now) ≡ true = ap card_fits (sym c.card_in-card.ensures) ∙ carded in
-    let lengths : (eqb (length c.args.sheet.now) c.sheet_size.result && eqb c.args.n c.cells.result && eqb c.args.m c.state_length.result) ≡ sheet_lengths_fit c.args.sheet.now c.args.n c.args.m = let q = c in
-    let p = q in
-    cc (c.state_length.ensures.0, q.cells.ensures.0, p.sheet_size.ensures.0, p.card_in-card.ensures) in
-    let e = c in
+    let lengths : (eqb (length c.args.sheet.now) c.sheet_size.result && eqb c.args.n c.cells.result && eqb c.args.m c.state_length.result) ≡ sheet_lengths_fit c.args.sheet.now c.args.n c.args.m = cc (c.state_length.ensures.0, c.cells.ensures.0, c.sheet_size.ensures.0, c.card_in-card.ensures) in
     front_2 _ _ _ head card (sym lengths ∙ c.if-fits.false)

@@ -13,11 +13,11 @@ pub loop-k-init : goal.loop-k-init
 loop-k-init c = gather_none
 
 pub loop-k-preserved : goal.loop-k-preserved
-loop-k-preserved c = let w = c in
-    let l = w in
-    let word = to_z-of_z {w = w32} {z = w.word_at.result} (record { sfits = w.word_at.type_inv }) ∙ w.word_at.ensures in
-    gather_more l.loop-k.invariant l.loop-k-test.true (c.is_between-ok.ensures ∙ simp word)
+loop-k-preserved c =
+    let word = to_z-of_z {c = w32} {z = c.word_at.result} (record { sfits = c.word_at.type_inv }) ∙ c.word_at.ensures in
+    gather_more c.loop-k.invariant c.loop-k-test.true (c.is_between-ok.ensures ∙ simp word)
 
 pub returns : goal.returns
-returns c = let f = c.ranges in
+returns c =
+    let f = c.ranges in
     simp (to_z-of_z f.low, to_z-of_z f.high) at (gather_all c.loop-k.invariant c.loop-k-test.false)

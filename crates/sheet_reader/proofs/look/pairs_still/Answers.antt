@@ -47,13 +47,10 @@ pub is_zero-requires-in-loop-k : goal.is_zero-requires-in-loop-k
 is_zero-requires-in-loop-k c = tt
 
 pub loop-k-preserved : goal.loop-k-preserved
-loop-k-preserved c = let z = c in
-    let b = z in
-    let a = b in
-    let l = a in
-    let one = z.is_zero.ensures ∙ ap is_zero (to_z-of_z {w = w32} {z = a.word_at-a.result} (record { sfits = a.word_at-a.type_inv }) ∙ a.word_at-a.ensures) in
-    let two = c.is_zero-in-loop-k.ensures ∙ ap is_zero (to_z-of_z {w = w32} {z = b.word_at-b.result} (record { sfits = b.word_at-b.type_inv }) ∙ b.word_at-b.ensures) in
-    gather_more l.loop-k.invariant l.loop-k-test.true (ap₂ ◌&&◌ one two)
+loop-k-preserved c =
+    let one = c.is_zero.ensures ∙ ap is_zero (to_z-of_z {w = w32} {c = c.word_at-a.result} (record { sfits = c.word_at-a.type_inv }) ∙ c.word_at-a.ensures) in
+    let two = c.is_zero-in-loop-k.ensures ∙ ap is_zero (to_z-of_z {w = w32} {c = c.word_at-b.result} (record { sfits = c.word_at-b.type_inv }) ∙ c.word_at-b.ensures) in
+    gather_more c.loop-k.invariant c.loop-k-test.true (ap₂ ◌&&◌ one two)
 
 pub returns : goal.returns
 returns c = gather_all c.loop-k.invariant c.loop-k-test.false

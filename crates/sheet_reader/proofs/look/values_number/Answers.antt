@@ -12,7 +12,7 @@ pub values_fit-requires : goal.values_fit-requires
 values_fit-requires c = front_shaped _ _ _ c.requires _ c.card_in-card.ensures
 
 pub returns-then-not-values_fit : goal.returns-then-not-values_fit
-returns-then-not-values_fit c = let v = c in number_3 _ _ _ v.requires (sym v.values_fit.ensures ∙ c.if-not-values_fit.true)
+returns-then-not-values_fit c = number_3 _ _ _ c.requires (sym c.values_fit.ensures ∙ c.if-not-values_fit.true)
 
 pub returns : goal.returns
-returns c = let v = c in number_0 _ _ _ v.requires (sym v.values_fit.ensures ∙ c.if-not-values_fit.false)
+returns c = number_0 _ _ _ c.requires (sym c.values_fit.ensures ∙ c.if-not-values_fit.false)

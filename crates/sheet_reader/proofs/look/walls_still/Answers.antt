@@ -30,27 +30,27 @@ pub overflow_add-cells : goal.overflow_add-cells
 overflow_add-cells c = let b = card_facts _ c.requires.card in omega arith
 
 pub pairs_still-sides-requires : goal.pairs_still-sides-requires
-pairs_still-sides-requires c = let o = c in
-    let l = words_behind_lem o.args.card o.args.sheet.now o.requires ∙ state_words o.args.card in
+pairs_still-sides-requires c =
+    let l = words_behind_lem c.args.card c.args.sheet.now c.requires ∙ state_words c.args.card in
     strides (omega arith) (omega arith)
 
 pub overflow_add-north-3 : goal.overflow_add-north-3
 overflow_add-north-3 c = let b = card_facts _ c.requires.card in omega arith
 
 pub pairs_still-ends-requires : goal.pairs_still-ends-requires
-pairs_still-ends-requires c = let o = c in
-    let l = words_behind_lem o.args.card o.args.sheet.now o.requires ∙ state_words o.args.card in
+pairs_still-ends-requires c =
+    let l = words_behind_lem c.args.card c.args.sheet.now c.requires ∙ state_words c.args.card in
     strides (omega arith) (omega arith)
 
 pub returns : goal.returns
-returns c = let o = c in
-    let d = o.args.card in
+returns c =
+    let d = c.args.card in
     let n = d.columns in
     let cells = d.rows * n in
     let north = cells + d.rows * (n + 1) in
-    let l = o.args.sheet.now in
+    let l = c.args.sheet.now in
     let k = state_words d in
-    let b = card_facts d o.requires.card in
-    let sides = state_pairs d l o.requires cells (cells + n) (n + 1) d.rows (strides (omega arith) (omega arith)) in
-    let ends = state_pairs d l o.requires north (north + cells) 1 n (strides (omega arith) (omega arith)) in
+    let b = card_facts d c.requires.card in
+    let sides = state_pairs d l c.requires cells (cells + n) (n + 1) d.rows (strides (omega arith) (omega arith)) in
+    let ends = state_pairs d l c.requires north (north + cells) 1 n (strides (omega arith) (omega arith)) in
     ap₂ ◌&&◌ (c.pairs_still-sides.ensures ∙ sides) (c.pairs_still-ends.ensures ∙ ends) ∙ sym (walls_flat d (state_in l))

@@ -21,8 +21,7 @@ card_in-card-requires c =
 pub returns-then-not-card_fits : goal.returns-then-not-card_fits
 returns-then-not-card_fits c =
     let head : head_fits c.args.sheet.now ≡ true = sym c.head_fits.ensures ∙ c.if-not-head_fits.false in
-    let k = c in
-    front_told _ _ _ 0 (front_1 _ _ _ head (ap card_fits (sym k.card_in-card.ensures) ∙ sym c.card_fits.ensures ∙ c.if-not-card_fits.true))
+    front_told _ _ _ 0 (front_1 _ _ _ head (ap card_fits (sym c.card_in-card.ensures) ∙ sym c.card_fits.ensures ∙ c.if-not-card_fits.true))
 
 pub cells-n-requires : goal.cells-n-requires
 cells-n-requires c =
@@ -37,8 +36,7 @@ state_length-m-requires c =
 pub returns-then-early-ne0 : goal.returns-then-early-ne0
 returns-then-early-ne0 c =
     let own : read_number c.args.sheet.now c.cells-n.result c.state_length-m.result ≡ read_number c.args.sheet.now (cells (card_in c.args.sheet.now)) (state_length (card_in c.args.sheet.now)) = cc (c.state_length-m.ensures.0, c.cells-n.ensures.0, c.card_in-card.ensures) in
-    let f = c in
-    f.front_number-early.ensures ∙ front_refused _ _ _ (λ z. c.if-early-ne0.true (f.front_number-early.ensures ∙ z)) ∙ own
+    c.front_number-early.ensures ∙ front_refused _ _ _ (λ z. c.if-early-ne0.true (c.front_number-early.ensures ∙ z)) ∙ own
 
 pub values_number-requires : goal.values_number-requires
 values_number-requires c = front_own _ _ _ (front_facts _ _ _ (sym c.front_number-early.ensures ∙ c.if-early-ne0.false))

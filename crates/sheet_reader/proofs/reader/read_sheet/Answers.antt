@@ -6,10 +6,10 @@ use Rattle.sheet_reader.proofs.Reading.{refused}
 use Rattle.sheet_reader.proofs.reader.read_sheet.Goals as goal
 
 pub returns-then-early-ne0 : goal.returns-then-early-ne0
-returns-then-early-ne0 c = let f = c in
-    let a = f.args in
-    let number = f.front_number-early.ensures ∙ front_refused _ _ _ (λ z. c.if-early-ne0.true (f.front_number-early.ensures ∙ z)) in
-    refused a.sheet.now a.land.now a.state.now f.front_number-early.result number c.no_card-card.result c.no_card-card.ensures c.if-early-ne0.true
+returns-then-early-ne0 c =
+    let a = c.args in
+    let number = c.front_number-early.ensures ∙ front_refused _ _ _ (λ z. c.if-early-ne0.true (c.front_number-early.ensures ∙ z)) in
+    refused a.sheet.now a.land.now a.state.now c.front_number-early.result number c.no_card-card.result c.no_card-card.ensures c.if-early-ne0.true
 
 pub read_values-requires : goal.read_values-requires
 read_values-requires c = front_facts _ _ _ (search rules)

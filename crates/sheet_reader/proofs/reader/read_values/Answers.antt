@@ -14,36 +14,24 @@ values_number-number-requires c = front_own _ _ _ c.requires
 
 pub fill-requires : goal.fill-requires
 fill-requires c =
-    let start = c in
-    let l = long _ _ _ start.requires in omega arith
+    let l = long _ _ _ c.requires in omega arith
 
 pub fill-requires-2 : goal.fill-requires-2
 fill-requires-2 c =
-    let start = c in
-    let looked = c in
-    let l = long _ _ _ start.requires in omega arith
+    let l = long _ _ _ c.requires in omega arith
 
 pub card_with-card-requires : goal.card_with-card-requires
 card_with-card-requires c =
-    let start = c in
-    let looked = c in
-    let filled = c in
-    (head_facts _ start.requires.head).long
+    (head_facts _ c.requires.head).long
 
 pub returns : goal.returns
 returns c =
-    let start = c in
-    let looked = c in
-    let filled = c in
-    let v = c in
-    let u = filled in
-    let w = looked in
-    let a = start.args in
-    let f = start.requires in
+    let a = c.args in
+    let f = c.requires in
     let l = a.sheet.now in
     let g = a.land.now in
     let s = a.state.now in
-    let k = w.values_number-number.result in
-    answered l g s k (w.values_number-number.ensures ∙ number_own _ _ _ f) c.card_with-card.result _ _ c.card_with-card.ensures
-    (u.fill.ensures ∙ ap (λ (x : List ℤ). if_done k x g) (ground_is _ _ _ f))
-    (v.fill-2.ensures ∙ ap (λ (x : List ℤ). if_done k x s) (state_is _ _ _ f))
+    let k = c.values_number-number.result in
+    answered l g s k (c.values_number-number.ensures ∙ number_own _ _ _ f) c.card_with-card.result _ _ c.card_with-card.ensures
+    (c.fill.ensures ∙ ap (λ (x : List ℤ). if_done k x g) (ground_is _ _ _ f))
+    (c.fill-2.ensures ∙ ap (λ (x : List ℤ). if_done k x s) (state_is _ _ _ f))

@@ -25,45 +25,39 @@ pub loop-i-init : goal.loop-i-init
 loop-i-init c = begin_row c.loop-j.invariant
 
 pub velocity-u-requires : goal.velocity-u-requires
-velocity-u-requires c = let r = c in
-    let d = r in
-    record {
-      flowing = d.requires.flowing;
-      face = record { column = omega (arith, d.wide-wide.ensures); row = omega (arith, d.high-high.ensures) };
-      both = λ t. both_rows d.requires.marked _ (omega (arith, d.high-high.ensures)) (sym r.both_still.ensures ∙ true_of _ (and_right (not d.args.textbook) _ (to_T t)));
-      first_engine = λ t. not-true _ (true_of _ (and_left (not d.args.textbook) _ (to_T t)));
+velocity-u-requires c = record {
+      flowing = c.requires.flowing;
+      face = record { column = omega (arith, c.wide-wide.ensures); row = omega (arith, c.high-high.ensures) };
+      both = λ t. both_rows c.requires.marked _ (omega (arith, c.high-high.ensures)) (sym c.both_still.ensures ∙ true_of _ (and_right (not c.args.textbook) _ (to_T t)));
+      first_engine = λ t. not-true _ (true_of _ (and_left (not c.args.textbook) _ (to_T t)));
     }
 
 pub returns-then-not-speed_fits : goal.returns-then-not-speed_fits
-returns-then-not-speed_fits c = let v = c.velocity-u in
-    let d = c in
-    let h = d in
-    rw (← h.wide-wide.ensures, ← h.high-high.ensures)
-    (left d.loop-i.invariant d.loop-j-test.true d.loop-i-test.true
+returns-then-not-speed_fits c =
+    let v = c.velocity-u in
+    rw (← c.wide-wide.ensures, ← c.high-high.ensures)
+    (left c.loop-i.invariant c.loop-j-test.true c.loop-i-test.true
     (sym (speed_says v.result v.type_inv v.ensures c.speed_fits.ensures) ∙ c.if-not-speed_fits.true))
 
 pub overflow_cast-u : goal.overflow_cast-u
-overflow_cast-u c = let v = c.velocity-u in
+overflow_cast-u c =
+    let v = c.velocity-u in
     speed_fits_word v.result v.type_inv v.ensures c.speed_fits.ensures (c.if-not-speed_fits.false)
 
 pub put-requires : goal.put-requires
-put-requires c = let d = c in
-    place d.loop-i.invariant.filled d.loop-j-test.true d.loop-i-test.true
+put-requires c = place c.loop-i.invariant.filled c.loop-j-test.true c.loop-i-test.true
 
 pub loop-i-preserved : goal.loop-i-preserved
-loop-i-preserved c = let tested = c in
+loop-i-preserved c =
     let fits = c.if-not-speed_fits.false in
-    let v = tested.velocity-u in
-    let d = tested in
-    more d.loop-i.invariant d.loop-j-test.true d.loop-i-test.true c.put.ensures
-    (speed_word v.result v.type_inv v.ensures tested.speed_fits.ensures fits)
-    (sym (speed_says v.result v.type_inv v.ensures tested.speed_fits.ensures) ∙ fits)
+    let v = c.velocity-u in
+    more c.loop-i.invariant c.loop-j-test.true c.loop-i-test.true c.put.ensures
+    (speed_word v.result v.type_inv v.ensures c.speed_fits.ensures fits)
+    (sym (speed_says v.result v.type_inv v.ensures c.speed_fits.ensures) ∙ fits)
 
 pub loop-j-preserved : goal.loop-j-preserved
-loop-j-preserved c = let r = c in
-    more_rows r.loop-j.invariant c.loop-i.invariant r.loop-j-test.true c.loop-i-test.false
+loop-j-preserved c = more_rows c.loop-j.invariant c.loop-i.invariant c.loop-j-test.true c.loop-i-test.false
 
 pub returns : goal.returns
-returns c = let h = c in
-    rw (← h.wide-wide.ensures, ← h.high-high.ensures)
-    (done c.loop-j.invariant c.loop-j-test.false (h.requires.long ∙ sym (ap₂ ◌*◌ h.high-high.ensures h.wide-wide.ensures)))
+returns c = rw (← c.wide-wide.ensures, ← c.high-high.ensures)
+    (done c.loop-j.invariant c.loop-j-test.false (c.requires.long ∙ sym (ap₂ ◌*◌ c.high-high.ensures c.wide-wide.ensures)))

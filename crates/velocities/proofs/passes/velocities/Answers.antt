@@ -20,10 +20,10 @@ slice_bounds-pass-end-2 c = sym (length-take-le _ _ (omega arith))
 
 pub pass-requires : goal.pass-requires
 unfolding wide high
-pass-requires c = let start = c in
-    let card = start.args.card in
-    let within : card.rows * (card.columns + 1) ≤ length start.args.part.now = omega arith in
-    record { flowing = start.requires.flowing; marked = start.requires.marked; long = length_part (card.rows * (card.columns + 1)) start.args.part.now within (omega arith) }
+pass-requires c =
+    let card = c.args.card in
+    let within : card.rows * (card.columns + 1) ≤ length c.args.part.now = omega arith in
+    record { flowing = c.requires.flowing; marked = c.requires.marked; long = length_part (card.rows * (card.columns + 1)) c.args.part.now within (omega arith) }
 
 pub returns-then-not-pass : goal.returns-then-not-pass
 unfolding new_velocities_fit new_speeds wide high
@@ -35,8 +35,8 @@ pass-requires-2 c = let p = c.requires in record { flowing = p.flowing; marked =
 
 pub returns : goal.returns
 unfolding new_velocities_fit next_velocities new_speeds wide high
-returns c = let d = c in
-    let card = d.args.card in
+returns c =
+    let card = c.args.card in
     let long : card.rows * suc card.columns ≡ card.rows * (card.columns + 1) = omega arith in
-    both_filled d.pass.ensures d.if-not-pass.false (filled_told c.pass-2.ensures (search (or-false, rules)))
+    both_filled c.pass.ensures c.if-not-pass.false (filled_told c.pass-2.ensures (search (or-false, rules)))
     (λ first last. two_parts _ _ first last (length-grid _ _ _ ∙ long))

@@ -14,24 +14,22 @@ returns-then-is_wall c = sym (new_is _ _ _ _ _ c.requires.face ∙ rw (sym c.is_
 
 pub returns : goal.returns
 returns c =
-    let no-wall : let a = c.args in is_wall a.card a.east a.i a.j ≡ false = sym c.is_wall.ensures ∙ c.if-is_wall.false in
-    let e = c in
+    let no_wall : let a = c.args in is_wall a.card a.east a.i a.j ≡ false = sym c.is_wall.ensures ∙ c.if-is_wall.false in
     to_z-of_z {w = w64} (record { sfits = c.velocity.type_inv })
     ∙ c.velocity.ensures
-    ∙ inner_is e.requires no-wall c.back-k.ensures c.back-l.ensures _
+    ∙ inner_is c.requires no_wall c.back-k.ensures c.back-l.ensures _
 
 pub back-k-requires : goal.back-k-requires
 back-k-requires c =
-    let no-wall : let a = c.args in is_wall a.card a.east a.i a.j ≡ false = sym c.is_wall.ensures ∙ c.if-is_wall.false in
-    (beside _ _ _ _ c.requires.face no-wall).back_east
+    let no_wall : let a = c.args in is_wall a.card a.east a.i a.j ≡ false = sym c.is_wall.ensures ∙ c.if-is_wall.false in
+    (beside _ _ _ _ c.requires.face no_wall).back_east
 
 pub back-l-requires : goal.back-l-requires
 back-l-requires c =
-    let no-wall : let a = c.args in is_wall a.card a.east a.i a.j ≡ false = sym c.is_wall.ensures ∙ c.if-is_wall.false in
-    (beside _ _ _ _ c.requires.face no-wall).back_north
+    let no_wall : let a = c.args in is_wall a.card a.east a.i a.j ≡ false = sym c.is_wall.ensures ∙ c.if-is_wall.false in
+    (beside _ _ _ _ c.requires.face no_wall).back_north
 
 pub velocity-requires : goal.velocity-requires
 velocity-requires c =
-    let no-wall : let a = c.args in is_wall a.card a.east a.i a.j ≡ false = sym c.is_wall.ensures ∙ c.if-is_wall.false in
-    let e = c in
-    on_inner e.requires no-wall c.back-k.ensures c.back-l.ensures
+    let no_wall : let a = c.args in is_wall a.card a.east a.i a.j ≡ false = sym c.is_wall.ensures ∙ c.if-is_wall.false in
+    on_inner c.requires no_wall c.back-k.ensures c.back-l.ensures

@@ -15,9 +15,9 @@ told h z s e = e ∙ rw (value h, value z, value s)
 -- K beside L, and L beside K
 pub returns : goal.returns
 unfolding dry_bank
-returns c = let first = c in
-    let r = first.requires in
-    ap₂ ◌||◌ (told (height r.new_k) (land r.ground_k) (surface r.new_l r.ground_l) first.is_bank.ensures)
+returns c =
+    let r = c.requires in
+    ap₂ ◌||◌ (told (height r.new_k) (land r.ground_k) (surface r.new_l r.ground_l) c.is_bank.ensures)
     (told (height r.new_l) (land r.ground_l) (surface r.new_k r.ground_k) c.is_bank-2.ensures)
 
 -- that each sum fits

@@ -9,9 +9,9 @@ use Rattle.velocity.proofs.textbook.pressure_term.Goals as goal
 pub returns : goal.returns
 unfolding pressure_term pressure
 returns c =
-    let square-k : Node w64 = let h = wide_height c.requires.new_k in mul h h tt in
-    let square-l : Node w64 = let h = wide_height c.requires.new_l in mul h h tt in
-    let difference : Node w64 = sub square-l square-k tt in
+    let square_k : Node w64 = let h = wide_height c.requires.new_k in mul h h tt in
+    let square_l : Node w64 = let h = wide_height c.requires.new_l in mul h h tt in
+    let difference : Node w64 = sub square_l square_k tt in
     value difference
 
 pub overflow_cast-k : goal.overflow_cast-k
@@ -22,17 +22,17 @@ overflow_cast-l c = fits (wide_height c.requires.new_l)
 
 pub overflow_mul-result : goal.overflow_mul-result
 overflow_mul-result c =
-    let square-l : Node w64 = let h = wide_height c.requires.new_l in mul h h tt in
-    fits square-l
+    let square_l : Node w64 = let h = wide_height c.requires.new_l in mul h h tt in
+    fits square_l
 
 pub overflow_mul-result-2 : goal.overflow_mul-result-2
 overflow_mul-result-2 c =
-    let square-k : Node w64 = let h = wide_height c.requires.new_k in mul h h tt in
-    fits square-k
+    let square_k : Node w64 = let h = wide_height c.requires.new_k in mul h h tt in
+    fits square_k
 
 pub overflow_sub-result : goal.overflow_sub-result
 overflow_sub-result c =
-    let square-k : Node w64 = let h = wide_height c.requires.new_k in mul h h tt in
-    let square-l : Node w64 = let h = wide_height c.requires.new_l in mul h h tt in
-    let difference : Node w64 = sub square-l square-k tt in
+    let square_k : Node w64 = let h = wide_height c.requires.new_k in mul h h tt in
+    let square_l : Node w64 = let h = wide_height c.requires.new_l in mul h h tt in
+    let difference : Node w64 = sub square_l square_k tt in
     fits difference
