@@ -29,15 +29,7 @@ fn fill_next(
     let rows = card.rows as usize;
     let cells = rows * columns;
     lists::copy(&mut next[..cells], &tide[..cells]);
-    velocities::passes::velocities(
-        card,
-        land,
-        state,
-        tide,
-        marks,
-        &mut next[cells..],
-        textbook,
-    )
+    velocities::passes::velocities(card, land, state, tide, marks, &mut next[cells..], textbook)
 }
 
 // The second half of a step, once the tide is at hand: 7, or 0 and the next state.

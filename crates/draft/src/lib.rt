@@ -22,14 +22,7 @@ pub fn step_by_draft(
     ensures { Handed (site_step_by (engine textbook) card land.now) state.now next.old result next.new }
 {
     let n = next.len();
-    let number = advance::advance(
-        card,
-        land,
-        state,
-        &mut tide[..n],
-        &mut draft[..n],
-        textbook,
-    );
+    let number = advance::advance(card, land, state, &mut tide[..n], &mut draft[..n], textbook);
     lists::renew(next, draft, number);
     number
 }

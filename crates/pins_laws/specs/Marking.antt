@@ -9,7 +9,7 @@ use Rattle.std.proofs.lemmas.List.{length-replicate}
 use Rattle.std.proofs.Math.Seq.{drop-length}
 use Rattle.std.proofs.Math.Dec.{T, not_T}
 use Rattle.laws.specs.Tests.{to_T, true_of, false_of, and_both, and_left}
-use Rattle.pins_rules.specs.Table.{pin, crew_of, chamber_of, stands, words_fit, each_once}
+use Rattle.pins_rules.specs.Table.{crew_of, chamber_of, stands, words_fit, each_once}
 use Rattle.pins_laws.specs.Words.{Fitting, none, one, crew_of_pin, chamber_of_pin, first_fits}
 use Rattle.pins_laws.specs.Behind.{one_before, words_behind_lem, once_behind}
 use Rattle.pins_laws.specs.Marks.{is_new, with_mark, Markable, MarkedBy, Marks, marks_none, marks_new, marks_more}

@@ -1,5 +1,5 @@
 -- Marks of the pins that stand among some words, one byte for each chamber: 1 for crew 1, 2 for crew 2, 3 for both. What one word does to them.
-use Prim.Native.Nat.{ℕ, ◌+◌, ◌-◌, ◌≤◌, ◌<◌}
+use Prim.Native.Nat.{ℕ, ◌+◌, ◌≤◌, ◌<◌}
 use Rattle.std.specs.Prelude.{◌≡◌, Bool, true, false, cond, not, ◌&&◌, ◌||◌, List, [], ◌∷◌, length, get_or, set, replicate, T, eqb}
 use Rattle.std.proofs.Math.Path.{refl, subst}
 use Rattle.std.proofs.Common.{sym, ◌∙◌, ap, ap₂, arith, get_or-set_same, get_or-set_other, eq-eqb, ne_eqb, eqb-true}

@@ -1,3 +1,2 @@
 // Theorems over the pin table's rules: no code, only specs/, where Promises.antt is read first.
 #![tactic(auto)]
-

@@ -1,7 +1,7 @@
 -- No water is made, and none is lost, but what pumps add and take. Document 02, [8], its first half: the sum of all heights after a step is that before. [10]: with pumps, the
 -- sum after plus what was taken is the sum before plus what was added; so of a run, whatever stopped it, and of the public calls. Nothing is asked of what is given to
 -- a run: it is so of a refused one, whose state is as it was. Without pumps nothing is added or taken, and the sum is kept.
-use Prim.Native.Nat.{ℕ, zero, suc, ◌+◌, ◌*◌, ◌≤◌}
+use Prim.Native.Nat.{ℕ, zero, suc, ◌*◌, ◌≤◌}
 use Rattle.std.specs.Prelude.{◌≡◌, ◌&&◌, ℤ, pos, ◌+ℤ◌, T, length}
 use Rattle.std.proofs.Math.Path.{refl, ap}
 use Rattle.std.proofs.Common.{sym, subst, ◌∙◌, suc-ne-zero, arith, le→leb}

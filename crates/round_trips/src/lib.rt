@@ -6,12 +6,7 @@ ghost use Rattle.promises.specs.RoundTrips.{BytesBack, SiteBack};
 use rules::{Card, Heard, Wrote};
 
 // Reads a sheet and writes what was read: the same bytes come back. A sheet that is refused is not written.
-pub fn read_then_write(
-    sheet: &[u8],
-    land: &mut [i32],
-    state: &mut [i32],
-    bytes: &mut [u8],
-) -> Wrote
+pub fn read_then_write(sheet: &[u8], land: &mut [i32], state: &mut [i32], bytes: &mut [u8]) -> Wrote
     ensures { BytesBack sheet.now land.old state.old bytes.old result land.new state.new bytes.new }
 {
     let heard = water::water_read_sheet(sheet, land, state);

@@ -78,13 +78,7 @@ fn run_within(
 }
 
 // A run: its tally, the last accepted state in the place of the first, and the scratch list all zero. Reasons 1 to 3 leave both lists as they were lent.
-pub fn run(
-    card: Card,
-    land: &[i32],
-    state: &mut [i32],
-    pumps: &[i32],
-    scratch: &mut [i32],
-) -> Tally
+pub fn run(card: Card, land: &[i32], state: &mut [i32], pumps: &[i32], scratch: &mut [i32]) -> Tally
     ensures { RunContract card land.now state.old pumps.now scratch.old result state.new scratch.new }
 {
     let refusal = pumps::check(card, land, state, pumps, scratch.len());

@@ -44,14 +44,7 @@ pub fn values_number(card: Card, land: &[i32], state: &[i32], three: bool) -> u3
 }
 
 // The lowest number that applies. What a call asks besides, for 1, for 2 and for 3, it has looked at itself.
-pub fn check_also(
-    card: Card,
-    land: &[i32],
-    state: &[i32],
-    one: bool,
-    two: bool,
-    three: bool,
-) -> u32
+pub fn check_also(card: Card, land: &[i32], state: &[i32], one: bool, two: bool, three: bool) -> u32
     ensures { result ≡ check_also one two three card land.now state.now }
 {
     let number = front(card, land, state, one, two);

@@ -13,13 +13,7 @@ pub use text::depth_text;
 pub use staff::staff_height;
 
 // One step: its number, and the next state. Refused: the next state as lent. Pumps are lent as words, cell and amount by turns; they act before the step.
-pub fn water_step(
-    card: Card,
-    land: &[i32],
-    state: &[i32],
-    pumps: &[i32],
-    next: &mut [i32],
-) -> u32
+pub fn water_step(card: Card, land: &[i32], state: &[i32], pumps: &[i32], next: &mut [i32]) -> u32
     ensures { StepContract card land.now state.now pumps.now next.old result next.new }
 {
     step::step(card, land, state, pumps, next, false)
@@ -103,12 +97,7 @@ pub fn water_read_sheet(sheet: &[u8], land: &mut [i32], state: &mut [i32]) -> He
 }
 
 // The sheet of a site: the number and the size, and the bytes in front of the lent list. Refused: size 0, the bytes as lent.
-pub fn water_write_sheet(
-    card: Card,
-    land: &[i32],
-    state: &[i32],
-    bytes: &mut [u8],
-) -> Wrote
+pub fn water_write_sheet(card: Card, land: &[i32], state: &[i32], bytes: &mut [u8]) -> Wrote
     ensures { WriteContract card land.now state.now bytes.old result bytes.new }
 {
     sheet_writer::write_sheet(card, land, state, bytes)

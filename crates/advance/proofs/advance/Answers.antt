@@ -1,5 +1,4 @@
 -- `advance`: the marks have room for every row of a sound site.
-use borrow.Author.Rules.{rules}
 use Rattle.advance.proofs.Answers.{sound, marks_room}
 use Rattle.advance.proofs.advance.Goals as goal
 

@@ -1,5 +1,4 @@
 -- `advance_marked`: the look at the limit decides on 4, and else gives what the flow needs.
-use borrow.Author.Rules.{rules}
 use Rattle.advance.proofs.Answers.{marked_state, limit_broken, limited}
 use Rattle.advance.proofs.advance_marked.Goals as goal
 

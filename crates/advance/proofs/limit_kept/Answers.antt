@@ -1,5 +1,4 @@
 -- `limit_kept`: the marks have room for every row of a sound site.
-use borrow.Author.Rules.{rules}
 use Rattle.advance.proofs.Answers.{marks_room}
 use Rattle.advance.proofs.limit_kept.Goals as goal
 

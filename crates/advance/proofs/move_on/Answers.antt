@@ -1,5 +1,4 @@
 -- `move_on`: the limit and the heights are known to pass, so 7 or 0 is given by the one test that is left.
-use borrow.Author.Rules.{rules}
 use Rattle.advance.proofs.Answers.{speed_broken, all_kept}
 use Rattle.advance.proofs.move_on.Goals as goal
 

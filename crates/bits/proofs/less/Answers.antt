@@ -1,6 +1,5 @@
 -- `less`: the difference is a word.
 use Rattle.bits.proofs.Signed.{less_sub, less_result}
-use borrow.Author.Rules.{rules}
 use Rattle.bits.proofs.less.Goals as goal
 
 pub overflow_sub-result : goal.overflow_sub-result

@@ -4,7 +4,6 @@ use mir.Syntax.{w32}
 use mir.ValLaws.{to_z-of_z}
 use Rattle.laws.specs.Words.{value_is}
 use Rattle.bits.proofs.Signed.{high_value}
-use borrow.Author.Rules.{rules}
 use Rattle.bits.proofs.value_of.Goals as goal
 
 pub returns-then-b-lt2147483648 : goal.returns-then-b-lt2147483648

@@ -1,5 +1,4 @@
 -- `cells`: the product of two sizes that passed fits.
-use borrow.Author.Rules.{rules}
 use mathlib.Core.Path.{refl}
 use native.Mathlib.Omega.{arith}
 use Rattle.laws.specs.Facts.{card_facts}

@@ -1,5 +1,4 @@
 -- `is_state`: the length is asked for only where the card fits.
-use borrow.Author.Rules.{rules}
 use mathlib.Core.Path.{◌≡◌, sym, ◌∙◌}
 use mathlib.Core.Bool.{true}
 use Rattle.rules.specs.Site.{card_fits}

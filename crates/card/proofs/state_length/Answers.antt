@@ -1,5 +1,4 @@
 -- `state_length`: its three products and their sum fit.
-use borrow.Author.Rules.{rules}
 use native.Mathlib.Numerals.{add-one}
 use native.Mathlib.Omega.{arith}
 use Rattle.rules.specs.Site.{state_length}

@@ -1,9 +1,8 @@
 use mathlib.Core.Path.{sym}
-use Prim.Native.Nat.{◌-◌}
 use native.Mathlib.Omega.{arith}
 use lib.IntN.{pos}
-use lib.ListN.{replicate, length-replicate, get_or-replicate}
-use Rattle.laws.specs.Copies.{Copied, begin, more, done}
+use lib.ListN.{length-replicate, get_or-replicate}
+use Rattle.laws.specs.Copies.{begin, more, done}
 use Rattle.lists.proofs.clear.Goals as goal
 
 pub loop-k-init : goal.loop-k-init

@@ -1,9 +1,8 @@
-use Prim.Native.Nat.{◌-◌}
 use mathlib.Core.Path.{refl}
 use native.Mathlib.Omega.{arith}
 use lib.IntN.{pos}
 use Rattle.laws.specs.Signed.{word_is}
-use Rattle.laws.specs.Copies.{Copied, begin, more, done}
+use Rattle.laws.specs.Copies.{begin, more, done}
 use Rattle.lists.proofs.copy.Goals as goal
 
 pub loop-k-init : goal.loop-k-init

@@ -1,6 +1,5 @@
 -- `renew`: where the number is 0 the front of what was made is copied, and else nothing is written.
 use mathlib.Core.Path.{◌∙◌, sym}
-use borrow.Author.Rules.{rules}
 use lib.Seq.{length-take-le}
 use Rattle.laws.specs.Outcomes.{if_done_lem, if_refused}
 use Rattle.lists.specs.Renewed.{renewed}

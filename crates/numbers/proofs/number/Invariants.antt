@@ -1,11 +1,8 @@
 -- `number`: one turn takes one byte more.
-use mathlib.Core.Path.{◌≡◌, sym, ap, ◌∙◌}
-use Prim.Native.Nat.{ℕ, ◌+◌, ◌-◌, ◌^◌, ◌≤◌, ◌<◌}
-use native.Mathlib.Omega.{arith}
+use mathlib.Core.Path.{◌≡◌}
+use Prim.Native.Nat.{◌^◌, ◌≤◌, ◌<◌}
 use lib.ListN.{drop}
 use Rattle.rules.specs.Sheet.{number_in}
-use Rattle.laws.specs.Bytes.{number_none}
-use Rattle.numbers.proofs.Loops.{fits_more, below_more, number_turn}
 use Rattle.numbers.proofs.number.Given as goal
 
 abbrev pub invariant-loop-i : goal.invariant-loop-i

@@ -1,10 +1,7 @@
-use mathlib.Core.Path.{◌≡◌, refl, ◌∙◌}
-use Prim.Native.Nat.{◌-◌, ◌≤◌}
+use mathlib.Core.Path.{refl, ◌∙◌}
 use native.Mathlib.Nat.{sub-zero}
 use native.Mathlib.Omega.{arith}
-use lib.ListN.{length, length-set}
-use Rattle.rules.specs.Sheet.{bytes_of}
-use Rattle.laws.specs.Laid.{laid}
+use lib.ListN.{length-set}
 use Rattle.numbers.proofs.Loops.{put_turn, put_end}
 use Rattle.numbers.proofs.put_number.Goals as goal
 

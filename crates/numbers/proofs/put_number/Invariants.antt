@@ -1,12 +1,9 @@
 -- `put_number`: what is still to be laid would complete the field at every turn.
-use mathlib.Core.Path.{◌≡◌, refl, ◌∙◌}
+use mathlib.Core.Path.{◌≡◌}
 use Prim.Native.Nat.{◌-◌, ◌≤◌}
-use native.Mathlib.Nat.{sub-zero}
-use native.Mathlib.Omega.{arith}
-use lib.ListN.{length, length-set}
+use lib.ListN.{length}
 use Rattle.rules.specs.Sheet.{bytes_of}
 use Rattle.laws.specs.Laid.{laid}
-use Rattle.numbers.proofs.Loops.{put_turn, put_end}
 use Rattle.numbers.proofs.put_number.Given as goal
 
 abbrev pub invariant-loop-i : goal.invariant-loop-i

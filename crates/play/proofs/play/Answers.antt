@@ -2,7 +2,6 @@
 use native.Mathlib.Omega.{arith}
 use Rattle.put.proofs.Laws.{put_same}
 use Rattle.print.proofs.Laws.{front_part, front_within, front_length}
-use borrow.Author.Rules.{rules}
 use Rattle.play.proofs.play.Goals as goal
 
 pub slice_bounds-page-end : goal.slice_bounds-page-end

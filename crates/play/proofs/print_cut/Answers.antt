@@ -8,7 +8,6 @@ use lib.Seq.{length-take-le}
 use Rattle.rules.specs.Site.{cells, state_length, card_fits}
 use Rattle.rules.specs.Sheet.{card_in}
 use Rattle.play.proofs.Numbers.{sheet_read, cells_few, words_few}
-use borrow.Author.Rules.{rules}
 use Rattle.play.proofs.print_cut.Goals as goal
 
 pub card_in-card-requires : goal.card_in-card-requires

@@ -3,7 +3,6 @@ use mathlib.Core.Path.{sym, ap, ◌∙◌}
 use Rattle.rules.specs.Play.{refused_line}
 use Rattle.print.proofs.Laws.{appended_same}
 use Rattle.play.proofs.Numbers.{printed_refused, printed_played}
-use borrow.Author.Rules.{rules}
 use Rattle.play.proofs.print_input.Goals as goal
 
 pub returns-then-number-ne0 : goal.returns-then-number-ne0

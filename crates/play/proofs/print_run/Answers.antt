@@ -8,7 +8,6 @@ use Rattle.rules.specs.Pumps.{progress_of}
 use Rattle.rules.specs.Calls.{run_tally, run_state}
 use Rattle.rules.specs.Play.{tally_line, row_lines, played_text}
 use Rattle.print.proofs.Laws.{appended_more, appended_same}
-use borrow.Author.Rules.{rules}
 use Rattle.play.proofs.print_run.Goals as goal
 
 pub returns : goal.returns

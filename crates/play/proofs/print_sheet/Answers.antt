@@ -6,7 +6,6 @@ use Rattle.rules.specs.Site.{state_length}
 use Rattle.rules.specs.Sheet.{card_in}
 use Rattle.print.proofs.Laws.{appended_same}
 use Rattle.play.proofs.Numbers.{narrow, short, card_read, ground_read, state_read, played_run}
-use borrow.Author.Rules.{rules}
 use Rattle.play.proofs.print_sheet.Goals as goal
 
 pub print_run-requires : goal.print_run-requires

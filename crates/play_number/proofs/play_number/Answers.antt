@@ -6,7 +6,6 @@ use Rattle.rules.specs.Sheet.{card_in, read_number}
 use Rattle.rules.specs.Play.{own_number}
 use Rattle.laws.specs.Sheets.{read_facts}
 use Rattle.play_number.proofs.Numbers.{small, number_long, number_own, number_small, number_large}
-use borrow.Author.Rules.{rules}
 use Rattle.play_number.proofs.play_number.Goals as goal
 
 pub returns-then-input-gt16659 : goal.returns-then-input-gt16659

@@ -1,5 +1,4 @@
 -- `check`: the front's number, and then the values' with the pumps'. Whether the one more list is as long as a state is asked for 2.
-use borrow.Author.Rules.{rules}
 use mathlib.Core.Path.{sym, ◌∙◌}
 use Rattle.site.specs.Front.{front_sized}
 use Rattle.pumps.proofs.Checks.{by_the_front, by_the_values}

@@ -1,4 +1,4 @@
-use Prim.Native.Nat.{ℕ, ◌-◌, ◌<◌, ◌≤◌}
+use Prim.Native.Nat.{ℕ, ◌<◌, ◌≤◌}
 use mathlib.Core.Path.{◌≡◌, ap, ap₂, ◌∙◌}
 use native.Mathlib.Nat.{le_trans}
 use native.Mathlib.Omega.{arith}
@@ -17,7 +17,7 @@ use Rattle.laws.specs.Pumped.{adds_amount, takes_amount}
 use Rattle.laws.specs.Exact.{Node, fits, read, value, within, unsigned, result, add, sub}
 use Rattle.pumps.proofs.Amounts.{takes_least}
 use Rattle.pumps.proofs.Cells.{place_is, place_cast}
-use Rattle.pumps.proofs.SoFar.{SoFar, AtTurn, none_yet, at_turn, few_so_far, added_most, taken_most, long_state, undoable, one_more, one_fails, all_done}
+use Rattle.pumps.proofs.SoFar.{AtTurn, none_yet, at_turn, few_so_far, added_most, taken_most, long_state, undoable, one_more, one_fails, all_done}
 use Rattle.pumps.proofs.pump.Goals as goal
 
 -- ---- what a turn leaves, and what all of them do; then that each operation fits
@@ -35,14 +35,14 @@ loop-k-preserved c =
     result {r = get_or s (nat_abs (to_z w32 (of_z w32 c.pump_at-one.result.cell))) (pos 0)} (ap (λ (n : ℕ). get_or s n (pos 0)) cell_place) known.height_size tt in
     let plus_is : c.adds-plus.result ≡ pos (adds pump) = c.adds-plus.ensures ∙ ap (λ (z : ℤ). pos (forward z)) amount_is in
     let plus_most : adds pump ≤ 1000000 = le_trans (adds_amount pump) known.amount.size in
-    let plus : Node w32 = result plus_is (record { size = plus_most}) tt in
+    let plus : Node w32 = result plus_is (record { size = plus_most }) tt in
     let wanted_is : c.wants-wanted.result ≡ pos (backward pump.amount) = c.wants-wanted.ensures ∙ ap (λ (z : ℤ). pos (backward z)) amount_is in
     let wanted_most : backward pump.amount ≤ 1000000 = le_trans (backward_size pump.amount) known.amount.size in
-    let wanted : Node w32 = result wanted_is (record { size = wanted_most}) tt in
+    let wanted : Node w32 = result wanted_is (record { size = wanted_most }) tt in
     let less_is : c.takes-less.result ≡ pos (takes pump finds) = c.takes-less.ensures ∙ ap₂ (λ (w h : ℤ). min_z w h) (value wanted) (value height)
     ∙ takes_least pump finds known.height_low in
     let less_most : takes pump finds ≤ 1000000 = le_trans (takes_amount pump finds) known.amount.size in
-    let less : Node w32 = result less_is (record { size = less_most}) tt in
+    let less : Node w32 = result less_is (record { size = less_most }) tt in
     let raised : Node w32 = add height plus tt in
     let after : Node w32 = sub raised less tt in
     let after_is : read after ≡ height_after pump finds = value after in
@@ -62,14 +62,14 @@ returns-then-after-gt50000000 c =
     result {r = get_or s (nat_abs (to_z w32 (of_z w32 d.pump_at-one.result.cell))) (pos 0)} (ap (λ (n : ℕ). get_or s n (pos 0)) cell_place) known.height_size tt in
     let plus_is : c.adds-plus.result ≡ pos (adds pump) = c.adds-plus.ensures ∙ ap (λ (z : ℤ). pos (forward z)) amount_is in
     let plus_most : adds pump ≤ 1000000 = le_trans (adds_amount pump) known.amount.size in
-    let plus : Node w32 = result plus_is (record { size = plus_most}) tt in
+    let plus : Node w32 = result plus_is (record { size = plus_most }) tt in
     let wanted_is : c.wants-wanted.result ≡ pos (backward pump.amount) = c.wants-wanted.ensures ∙ ap (λ (z : ℤ). pos (backward z)) amount_is in
     let wanted_most : backward pump.amount ≤ 1000000 = le_trans (backward_size pump.amount) known.amount.size in
-    let wanted : Node w32 = result wanted_is (record { size = wanted_most}) tt in
+    let wanted : Node w32 = result wanted_is (record { size = wanted_most }) tt in
     let less_is : c.takes-less.result ≡ pos (takes pump finds) = c.takes-less.ensures ∙ ap₂ (λ (w h : ℤ). min_z w h) (value wanted) (value height)
     ∙ takes_least pump finds known.height_low in
     let less_most : takes pump finds ≤ 1000000 = le_trans (takes_amount pump finds) known.amount.size in
-    let less : Node w32 = result less_is (record { size = less_most}) tt in
+    let less : Node w32 = result less_is (record { size = less_most }) tt in
     let raised : Node w32 = add height plus tt in
     let after : Node w32 = sub raised less tt in
     let after_is : read after ≡ height_after pump finds = value after in
@@ -134,7 +134,7 @@ overflow_add-after c =
     result {r = get_or s (nat_abs (to_z w32 (of_z w32 c.pump_at-one.result.cell))) (pos 0)} (ap (λ (n : ℕ). get_or s n (pos 0)) cell_place) known.height_size tt in
     let plus_is : c.adds-plus.result ≡ pos (adds pump) = c.adds-plus.ensures ∙ ap (λ (z : ℤ). pos (forward z)) amount_is in
     let plus_most : adds pump ≤ 1000000 = le_trans (adds_amount pump) known.amount.size in
-    let plus : Node w32 = result plus_is (record { size = plus_most}) tt in
+    let plus : Node w32 = result plus_is (record { size = plus_most }) tt in
     let raised : Node w32 = add height plus tt in
     fits raised
 
@@ -151,14 +151,14 @@ overflow_sub-after c =
     result {r = get_or s (nat_abs (to_z w32 (of_z w32 c.pump_at-one.result.cell))) (pos 0)} (ap (λ (n : ℕ). get_or s n (pos 0)) cell_place) known.height_size tt in
     let plus_is : c.adds-plus.result ≡ pos (adds pump) = c.adds-plus.ensures ∙ ap (λ (z : ℤ). pos (forward z)) amount_is in
     let plus_most : adds pump ≤ 1000000 = le_trans (adds_amount pump) known.amount.size in
-    let plus : Node w32 = result plus_is (record { size = plus_most}) tt in
+    let plus : Node w32 = result plus_is (record { size = plus_most }) tt in
     let wanted_is : c.wants-wanted.result ≡ pos (backward pump.amount) = c.wants-wanted.ensures ∙ ap (λ (z : ℤ). pos (backward z)) amount_is in
     let wanted_most : backward pump.amount ≤ 1000000 = le_trans (backward_size pump.amount) known.amount.size in
-    let wanted : Node w32 = result wanted_is (record { size = wanted_most}) tt in
+    let wanted : Node w32 = result wanted_is (record { size = wanted_most }) tt in
     let less_is : c.takes-less.result ≡ pos (takes pump finds) = c.takes-less.ensures ∙ ap₂ (λ (w h : ℤ). min_z w h) (value wanted) (value height)
     ∙ takes_least pump finds known.height_low in
     let less_most : takes pump finds ≤ 1000000 = le_trans (takes_amount pump finds) known.amount.size in
-    let less : Node w32 = result less_is (record { size = less_most}) tt in
+    let less : Node w32 = result less_is (record { size = less_most }) tt in
     let raised : Node w32 = add height plus tt in
     let after : Node w32 = sub raised less tt in
     fits after
@@ -202,7 +202,7 @@ overflow_cast-added c =
     let amount_is : to_z w32 (of_z w32 c.pump_at-one.result.amount) ≡ pump.amount = word_is _ c.struct_told-in-loop-k-1.given.1.0.1 c.pump_at-one.ensures.1 in
     let plus_is : c.adds-plus.result ≡ pos (adds pump) = c.adds-plus.ensures ∙ ap (λ (z : ℤ). pos (forward z)) amount_is in
     let plus_most : adds pump ≤ 1000000 = le_trans (adds_amount pump) known.amount.size in
-    let plus : Node w32 = result plus_is (record { size = plus_most}) tt in
+    let plus : Node w32 = result plus_is (record { size = plus_most }) tt in
     unsigned plus tt tt
 
 pub overflow_add-added : goal.overflow_add-added
@@ -213,7 +213,7 @@ overflow_add-added c =
     let amount_is : to_z w32 (of_z w32 c.pump_at-one.result.amount) ≡ pump.amount = word_is _ c.struct_told-in-loop-k-1.given.1.0.1 c.pump_at-one.ensures.1 in
     let plus_is : c.adds-plus.result ≡ pos (adds pump) = c.adds-plus.ensures ∙ ap (λ (z : ℤ). pos (forward z)) amount_is in
     let plus_most : adds pump ≤ 1000000 = le_trans (adds_amount pump) known.amount.size in
-    let plus : Node w32 = result plus_is (record { size = plus_most}) tt in
+    let plus : Node w32 = result plus_is (record { size = plus_most }) tt in
     omega (arith, added_most c.requires c.loop-k.invariant, (within plus).size)
 
 pub overflow_cast-taken : goal.overflow_cast-taken
@@ -229,11 +229,11 @@ overflow_cast-taken c =
     result {r = get_or s (nat_abs (to_z w32 (of_z w32 c.pump_at-one.result.cell))) (pos 0)} (ap (λ (n : ℕ). get_or s n (pos 0)) cell_place) known.height_size tt in
     let wanted_is : c.wants-wanted.result ≡ pos (backward pump.amount) = c.wants-wanted.ensures ∙ ap (λ (z : ℤ). pos (backward z)) amount_is in
     let wanted_most : backward pump.amount ≤ 1000000 = le_trans (backward_size pump.amount) known.amount.size in
-    let wanted : Node w32 = result wanted_is (record { size = wanted_most}) tt in
+    let wanted : Node w32 = result wanted_is (record { size = wanted_most }) tt in
     let less_is : c.takes-less.result ≡ pos (takes pump finds) = c.takes-less.ensures ∙ ap₂ (λ (w h : ℤ). min_z w h) (value wanted) (value height)
     ∙ takes_least pump finds known.height_low in
     let less_most : takes pump finds ≤ 1000000 = le_trans (takes_amount pump finds) known.amount.size in
-    let less : Node w32 = result less_is (record { size = less_most}) tt in
+    let less : Node w32 = result less_is (record { size = less_most }) tt in
     let wanted_cast : T (non_neg (to_z w32 (of_z w32 c.wants-wanted.result))) × Fits w64 (nat_abs (to_z w32 (of_z w32 c.wants-wanted.result))) = unsigned wanted tt tt in
     let less_cast : T (non_neg (to_z w32 (of_z w32 c.takes-less.result))) × Fits w64 (nat_abs (to_z w32 (of_z w32 c.takes-less.result))) = unsigned less tt tt in
     search (less_cast, wanted_cast)
@@ -251,11 +251,11 @@ overflow_add-taken c =
     result {r = get_or s (nat_abs (to_z w32 (of_z w32 c.pump_at-one.result.cell))) (pos 0)} (ap (λ (n : ℕ). get_or s n (pos 0)) cell_place) known.height_size tt in
     let wanted_is : c.wants-wanted.result ≡ pos (backward pump.amount) = c.wants-wanted.ensures ∙ ap (λ (z : ℤ). pos (backward z)) amount_is in
     let wanted_most : backward pump.amount ≤ 1000000 = le_trans (backward_size pump.amount) known.amount.size in
-    let wanted : Node w32 = result wanted_is (record { size = wanted_most}) tt in
+    let wanted : Node w32 = result wanted_is (record { size = wanted_most }) tt in
     let less_is : c.takes-less.result ≡ pos (takes pump finds) = c.takes-less.ensures ∙ ap₂ (λ (w h : ℤ). min_z w h) (value wanted) (value height)
     ∙ takes_least pump finds known.height_low in
     let less_most : takes pump finds ≤ 1000000 = le_trans (takes_amount pump finds) known.amount.size in
-    let less : Node w32 = result less_is (record { size = less_most}) tt in
+    let less : Node w32 = result less_is (record { size = less_most }) tt in
     omega (arith, taken_most c.requires c.loop-k.invariant, (within less).size, (within wanted).size)
 
 pub loop-k-smaller : goal.loop-k-smaller

@@ -1,5 +1,4 @@
 -- `pump_fits`: the cell's two tests, and the amount's two, which are one of its size.
-use borrow.Author.Rules.{rules}
 use mathlib.Core.Path.{◌≡◌, ap, ◌∙◌}
 use lib.IntN.{pos}
 use mir.Syntax.{w32}

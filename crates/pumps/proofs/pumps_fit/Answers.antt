@@ -1,10 +1,7 @@
-use Prim.Native.Nat.{◌-◌, ◌≤◌, zero-le}
+use Prim.Native.Nat.{zero-le}
 use mathlib.Core.Path.{sym, ap, ◌∙◌}
 use mathlib.Core.Bool.{not}
 use native.Mathlib.Omega.{arith}
-use borrow.Author.Tests.{not-false}
-use lib.Dec.{T}
-use Rattle.rules.specs.Grid.{all}
 use Rattle.rules.specs.Pumps.{pump_at, pump_count, pump_fits, pumps_fit}
 use Rattle.laws.specs.Tests.{true_of, to_T}
 use Rattle.laws.specs.Grids.{all_none, all_more, all_broken, all_end}

@@ -1,7 +1,6 @@
 use Prim.Native.Nat.{◌-◌, ◌<◌}
 use mathlib.Core.Path.{◌≡◌, refl}
 use native.Mathlib.Omega.{arith}
-use borrow.Author.Rules.{rules}
 use lib.IntN.{pos, nat_abs}
 use lib.ListN.{length}
 use mir.Syntax.{w32}
@@ -9,7 +8,7 @@ use mir.Val.{to_z, of_z}
 use Rattle.rules.specs.Pumps.{Pump, pump_at}
 use Rattle.laws.specs.Signed.{word_is}
 use Rattle.pumps.proofs.Cells.{place_is, place_cast}
-use Rattle.pumps.proofs.Undoing.{Undoing, undo_none, undo_more, undo_all}
+use Rattle.pumps.proofs.Undoing.{undo_none, undo_more, undo_all}
 use Rattle.pumps.proofs.undo.Goals as goal
 
 pub loop-k-init : goal.loop-k-init

@@ -1,6 +1,5 @@
 -- `read_then_write`: what the slice of the sheet holds are bytes, so that the round trip needs no more.
 use Rattle.promises.specs.RoundTrips.{not_read, read_then_write_lem}
-use borrow.Author.Rules.{rules}
 use Rattle.round_trips.proofs.read_then_write.Goals as goal
 
 pub returns-then-number-ne0 : goal.returns-then-number-ne0

@@ -5,7 +5,6 @@ use native.Mathlib.Omega.{arith}
 use lib.ListN.{length}
 use lib.Seq.{length-take-le}
 use Rattle.promises.specs.RoundTrips.{not_written, size_room, write_then_read_lem}
-use borrow.Author.Rules.{rules}
 use Rattle.round_trips.proofs.write_then_read.Goals as goal
 
 pub returns-then-number-ne0 : goal.returns-then-number-ne0

@@ -1,6 +1,5 @@
 -- `large_run`: no state of a sound site has over 49,408 words, and the longest tide has room for as many.
 use native.Mathlib.Omega.{arith}
-use borrow.Author.Rules.{rules}
 use Rattle.run.proofs.Answers.{state_few}
 use Rattle.run.proofs.large_run.Goals as goal
 

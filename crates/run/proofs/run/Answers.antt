@@ -1,6 +1,5 @@
 -- `run`: a check that fails is the reason and leaves both lists as lent; where all pass, the site is sound.
 use mathlib.Core.Path.{sym, ◌∙◌}
-use borrow.Author.Rules.{rules}
 use Rattle.laws.specs.PumpChecks.{checked_with}
 use Rattle.run.proofs.Answers.{refused}
 use Rattle.run.proofs.run.Goals as goal

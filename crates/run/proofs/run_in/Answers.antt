@@ -3,7 +3,6 @@ use mathlib.Core.Path.{sym, ap, ◌∙◌}
 use Prim.Native.Nat.{ℕ}
 use lib.IntN.{pos}
 use lib.ListN.{replicate}
-use borrow.Author.Rules.{rules}
 use Rattle.run.proofs.Answers.{tide_part, run_room, ran}
 use Rattle.run.proofs.run_in.Goals as goal
 

@@ -2,7 +2,6 @@
 use mathlib.Core.Path.{◌∙◌}
 use Rattle.sheet_writer.proofs.Writing.{header_laid}
 use native.Mathlib.Omega.{arith}
-use borrow.Author.Rules.{rules}
 use Rattle.sheet_writer.proofs.put_header.Goals as goal
 
 pub put_number-requires-8 : goal.put_number-requires-8

@@ -1,7 +1,6 @@
 -- `write_number`: the check comes first, and 8 last.
 use native.Mathlib.Omega.{arith}
 use Rattle.sheet_writer.proofs.Writing.{card_passed, write_checked, write_8, write_0}
-use borrow.Author.Rules.{rules}
 use Rattle.sheet_writer.proofs.write_number.Goals as goal
 
 pub returns-then-refusal-ne0 : goal.returns-then-refusal-ne0

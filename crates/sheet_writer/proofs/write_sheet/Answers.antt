@@ -3,7 +3,6 @@ use mathlib.Core.Path.{sym, ◌∙◌}
 use native.Mathlib.Omega.{arith}
 use lib.ListN.{length}
 use Rattle.sheet_writer.proofs.Writing.{Clean, clean, write_refused, write_done, sheet_laid}
-use borrow.Author.Rules.{rules}
 use Rattle.sheet_writer.proofs.write_sheet.Goals as goal
 
 pub returns-then-number-ne0 : goal.returns-then-number-ne0

@@ -1,5 +1,4 @@
 -- `check`: nothing is asked besides.
-use borrow.Author.Rules.{rules}
 use Rattle.rules.specs.Site.{check}
 use Rattle.site.proofs.check.Goals as goal
 

@@ -1,5 +1,4 @@
 -- `check_also`: the front's number, and then the values'.
-use borrow.Author.Rules.{rules}
 use mathlib.Core.Path.{sym, ◌∙◌}
 use Rattle.rules.specs.Site.{check_also}
 use Rattle.laws.specs.Checks.{by_front}

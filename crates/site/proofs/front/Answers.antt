@@ -1,5 +1,4 @@
 -- `front`: the two tests that are made before any value is looked at.
-use borrow.Author.Rules.{rules}
 use mathlib.Core.Path.{◌≡◌, sym, ap, ◌∙◌}
 use mathlib.Core.Bool.{Bool, true, ◌&&◌}
 use borrow.Author.Tests.{not-true, not-false}

@@ -1,5 +1,4 @@
 -- `lengths_fit`: the two lengths that the card asks for.
-use borrow.Author.Rules.{rules}
 use Rattle.rules.specs.Site.{lengths_fit}
 use Rattle.site.proofs.lengths_fit.Goals as goal
 

@@ -1,5 +1,4 @@
 -- `values_number`: 3 where the values fail or what is asked besides, and 0 elsewhere.
-use borrow.Author.Rules.{rules}
 use mathlib.Core.Path.{◌≡◌, sym, ap, ◌∙◌}
 use mathlib.Core.Bool.{Bool, ◌&&◌}
 use borrow.Author.Tests.{not-true, not-false}

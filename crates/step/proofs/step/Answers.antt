@@ -1,6 +1,5 @@
 -- `step`: a check that fails is the answer and leaves the next state as lent; where all pass the site is sound, and without pumps the step is the pumped one.
 use mathlib.Core.Path.{sym, ◌∙◌}
-use borrow.Author.Rules.{rules}
 use Rattle.laws.specs.PumpChecks.{checked_with}
 use Rattle.step.proofs.Rooms.{refused_early, handed_over, none_handed}
 use Rattle.step.proofs.step.Goals as goal

@@ -1,4 +1,3 @@
-use Prim.Native.Nat.{◌-◌}
 use mathlib.Core.Path.{◌≡◌, ◌∙◌}
 use native.Mathlib.Omega.{arith}
 use lib.ListN.{length}
@@ -6,7 +5,7 @@ use borrow.Author.Rules.{rules}
 use mir.Facts.{to_z-of_z}
 use mir.Syntax.{w32}
 use Rattle.rules.specs.Site.{state_length}
-use Rattle.steps.proofs.Loop.{Running, few_steps, cells_held, peak_is, begins, stops, room_for, goes_on, ends}
+use Rattle.steps.proofs.Loop.{few_steps, cells_held, peak_is, begins, stops, room_for, goes_on, ends}
 use Rattle.steps.proofs.steps.Goals as goal
 
 pub greatest-requires : goal.greatest-requires
@@ -14,11 +13,11 @@ greatest-requires c = omega (arith, c.cells-cells.ensures.0, cells_held _ _ _ c.
 
 pub loop-done-init : goal.loop-done-init
 loop-done-init c = let p = c.requires in (
-      begins _ _ _ _ _ p.sound (to_z-of_z {w = w32} (record { sfits = c.greatest.type_inv }) ∙ peak_is _ _ _ c.cells-cells.ensures.0 c.greatest.ensures),
-      p.scratch_long,
-      p.tide_long,
-      c.no_heights-found.ensures,
-    )
+  begins _ _ _ _ _ p.sound (to_z-of_z {w = w32} (record { sfits = c.greatest.type_inv }) ∙ peak_is _ _ _ c.cells-cells.ensures.0 c.greatest.ensures),
+  p.scratch_long,
+  p.tide_long,
+  c.no_heights-found.ensures,
+)
 
 pub pumped_advance-moved-requires : goal.pumped_advance-moved-requires
 pumped_advance-moved-requires c =

@@ -1,12 +1,9 @@
 -- `steps`: at each turn the site is sound, and the steps that are left lead from tally and state to the run's outcome.
 use Prim.Native.Nat.{◌-◌}
-use mathlib.Core.Path.{◌≡◌, ◌∙◌}
-use native.Mathlib.Omega.{arith}
+use mathlib.Core.Path.{◌≡◌}
 use lib.ListN.{length}
-use borrow.Author.Rules.{rules}
-use mir.Facts.{to_z-of_z}
 use Rattle.rules.specs.Site.{state_length}
-use Rattle.steps.proofs.Loop.{Running, few_steps, cells_held, peak_is, begins, stops, room_for, goes_on, ends}
+use Rattle.steps.proofs.Loop.{Running}
 use Rattle.steps.proofs.steps.Given as goal
 
 abbrev pub invariant-loop-done : goal.invariant-loop-done

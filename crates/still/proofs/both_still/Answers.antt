@@ -1,7 +1,6 @@
 -- `both_still`: an eastward row has the cells of one row on both sides; a northward one those of two, where it is no wall.
 use Prim.Native.Nat.{◌<◌}
 use native.Mathlib.Omega.{arith}
-use borrow.Author.Rules.{rules}
 use Rattle.still.proofs.Rows.{eastward, northward}
 use Rattle.still.specs.Marks.{both_marked}
 use Rattle.still.proofs.both_still.Goals as goal

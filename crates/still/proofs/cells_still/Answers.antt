@@ -2,7 +2,6 @@
 use mathlib.Core.Path.{sym, ◌∙◌}
 use native.Mathlib.Numerals.{add-one}
 use native.Mathlib.Omega.{arith}
-use borrow.Author.Tests.{not-true, not-false}
 use Rattle.layout.specs.Ways.{high}
 use Rattle.still.specs.Rows.{cells_still}
 use Rattle.still.proofs.cells_still.Goals as goal

@@ -1,6 +1,5 @@
 -- `face_still`: the test is made of the velocity that stands there.
 use mathlib.Core.Path.{◌∙◌, ap}
-use borrow.Author.Rules.{rules}
 use Rattle.rules.specs.Site.{is_zero}
 use Rattle.laws.specs.Signed.{word_is}
 use Rattle.still.proofs.face_still.Goals as goal

@@ -1,8 +1,7 @@
-use Prim.Native.Nat.{◌-◌, ◌<◌}
+use Prim.Native.Nat.{◌<◌}
 use native.Mathlib.Omega.{arith}
-use borrow.Author.Rules.{rules}
 use lib.ListN.{length}
-use Rattle.still.proofs.Rows.{MarkedTo, none_marked, one_more, all_marked}
+use Rattle.still.proofs.Rows.{none_marked, one_more, all_marked}
 use Rattle.still.proofs.mark.Goals as goal
 
 pub loop-j-init : goal.loop-j-init

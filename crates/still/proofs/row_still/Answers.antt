@@ -1,11 +1,8 @@
 use mathlib.Core.Path.{sym, ◌∙◌}
-use Prim.Native.Nat.{◌-◌, ◌/◌, ◌<◌}
+use Prim.Native.Nat.{◌/◌, ◌<◌}
 use native.Mathlib.Omega.{arith}
-use borrow.Author.Rules.{rules}
-use borrow.Author.Tests.{not-true}
-use Rattle.rules.specs.Site.{read_state, is_zero}
-use Rattle.laws.specs.Gather.{Gathered, gather_none, gather_more, gather_all}
-use Rattle.layout.specs.Ways.{wide, speeds}
+use Rattle.laws.specs.Gather.{gather_none, gather_more, gather_all}
+use Rattle.layout.specs.Ways.{wide}
 use Rattle.still.specs.Rows.{row_still}
 use Rattle.still.proofs.Rows.{row_moves, middle_in}
 use Rattle.still.proofs.row_still.Goals as goal

@@ -1,6 +1,5 @@
 -- `crossing`: what crosses is known to be at most 50,000,000 in size, so that the cast to 32 bits loses nothing.
 use mathlib.Core.Path.{◌≡◌, ◌∙◌}
-use borrow.Author.Rules.{rules}
 use mir.Facts.{to_z-of_z}
 use Rattle.rules.specs.Step.{transfer}
 use Rattle.laws.specs.Signed.{narrow_fits, narrow_is}

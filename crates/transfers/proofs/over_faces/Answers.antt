@@ -1,16 +1,14 @@
-use mathlib.Core.Path.{◌≡◌, ◌∙◌, sym, ap, ap₂}
-use mathlib.Core.Logic.{⊎_elim}
-use Prim.Native.Nat.{ℕ, ◌*◌, ◌-◌}
+use mathlib.Core.Path.{◌≡◌, ◌∙◌, sym, ap₂}
+use Prim.Native.Nat.{ℕ, ◌*◌}
 use native.Mathlib.Nat.{le_of_eq}
 use native.Mathlib.Omega.{arith}
-use borrow.Author.Rules.{rules}
 use lib.ListN.{length}
 use mir.Val.{to_z}
 use mir.Syntax.{w32}
 use Rattle.rules.specs.Grid.{grid}
 use Rattle.rules.specs.Site.{read_state}
 use Rattle.laws.specs.Signed.{word_is}
-use Rattle.laws.specs.Passes.{Rows, Cells, begin, begin_row, place, more, more_rows, done}
+use Rattle.laws.specs.Passes.{begin, begin_row, place, more, more_rows, done}
 use Rattle.layout.specs.Ways.{transfers}
 use Rattle.layout.specs.Places.{FaceIn}
 use Rattle.still.proofs.Rows.{row_at, near_row, both_rows}
@@ -32,7 +30,7 @@ loop-i-init c = begin_row c.loop-j.invariant
 pub over_face-crossed-requires : goal.over_face-crossed-requires
 over_face-crossed-requires c =
     let face : let a = c.args in FaceIn a.card a.east c.loop-i.i c.loop-j.j = record { column = omega (arith, c.wide-wide.ensures); row = omega (arith, c.high-high.ensures) } in
-    record { limited = c.requires.limited; face = face}
+    record { limited = c.requires.limited; face = face }
 
 pub put-requires : goal.put-requires
 put-requires c = place c.loop-i.invariant c.loop-j-test.true c.loop-i-test.true
@@ -42,10 +40,10 @@ loop-i-preserved c =
     let a = c.args in
     let here : FaceIn a.card a.east c.loop-i.i c.loop-j.j = record { column = omega (arith, c.wide-wide.ensures); row = omega (arith, c.high-high.ensures) } in
     let crossed_is : to_z w32 c.if-still.crossed-bits ≡ transfers a.card (read_state a.card a.state.now) a.east c.loop-i.i c.loop-j.j =
-        elim c.if-still.branch [
-          | then-still w ↦ w.crossed-is ∙ sym (over_still _ _ _ _ _ (row_at _ _ _ _ _ here.column (near_row (both_rows c.requires.marked _ here.row (sym c.both_still-still.ensures ∙ w.if-still.true)).row_l _)))
-          | else-still w ↦ let over = w.over_face-crossed in w.crossed-is ∙ word_is over.result over.type_inv over.ensures
-        ] in
+    elim c.if-still.branch [
+      | then-still w ↦ w.crossed-is ∙ sym (over_still _ _ _ _ _ (row_at _ _ _ _ _ here.column (near_row (both_rows c.requires.marked _ here.row (sym c.both_still-still.ensures ∙ w.if-still.true)).row_l _)))
+      | else-still w ↦ let over = w.over_face-crossed in w.crossed-is ∙ word_is over.result over.type_inv over.ensures
+    ] in
     more c.loop-i.invariant c.loop-j-test.true c.loop-i-test.true c.put.ensures crossed_is
 
 pub loop-j-preserved : goal.loop-j-preserved

@@ -2,7 +2,6 @@
 use mathlib.Core.Path.{◌∙◌}
 use Prim.Native.Nat.{ℕ, ◌*◌}
 use native.Mathlib.Omega.{arith}
-use borrow.Author.Rules.{rules}
 use Rattle.laws.specs.Places.{room}
 use Rattle.laws.specs.Parts.{back_length, back_drop}
 use Rattle.transfers.proofs.transfers.Goals as goal

@@ -1,13 +1,10 @@
 use mathlib.Core.Path.{◌∙◌}
-use Prim.Native.Nat.{◌+◌, ◌-◌}
-use native.Mathlib.Omega.{arith}
+use Prim.Native.Nat.{◌+◌}
 use lib.IntN.{pos}
 use lib.ListN.{get_or}
-use mir.Val.{to_z}
 use mir.Syntax.{w32}
 use mir.Facts.{to_z-of_z}
-use Rattle.laws.specs.Between.{between}
-use Rattle.laws.specs.Gather.{Gathered, gather_none, gather_more, gather_all}
+use Rattle.laws.specs.Gather.{gather_none, gather_more, gather_all}
 use Rattle.values.proofs.all_between.Goals as goal
 
 pub loop-k-init : goal.loop-k-init

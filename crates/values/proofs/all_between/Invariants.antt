@@ -1,14 +1,9 @@
 -- `all_between`: one turn gathers one more word's test.
-use mathlib.Core.Path.{◌∙◌}
-use Prim.Native.Nat.{◌+◌, ◌-◌}
-use native.Mathlib.Omega.{arith}
+use Prim.Native.Nat.{◌+◌}
 use lib.IntN.{pos}
 use lib.ListN.{get_or}
-use mir.Val.{to_z}
-use mir.Syntax.{w32}
-use mir.Facts.{to_z-of_z}
 use Rattle.laws.specs.Between.{between}
-use Rattle.laws.specs.Gather.{Gathered, gather_none, gather_more, gather_all}
+use Rattle.laws.specs.Gather.{Gathered}
 use Rattle.values.proofs.all_between.Given as goal
 
 abbrev pub invariant-loop-k : goal.invariant-loop-k

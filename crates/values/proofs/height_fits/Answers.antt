@@ -1,5 +1,4 @@
 -- `height_fits`: between 0 and 50,000,000.
-use borrow.Author.Rules.{rules}
 use mathlib.Core.Path.{◌∙◌}
 use mir.Facts.{to_z-of_z}
 use Rattle.values.proofs.height_fits.Goals as goal

@@ -1,5 +1,4 @@
 -- `values_fit`: the bands lie in the lists.
-use borrow.Author.Rules.{rules}
 use native.Mathlib.Omega.{arith}
 use Rattle.laws.specs.Facts.{length_facts}
 use Rattle.laws.specs.Values.{values_joined}

@@ -1,5 +1,4 @@
 -- `new_velocity`: H' is not 0 where it divides; the bounds on A and on the slope keep the difference from wrapping.
-use borrow.Author.Rules.{rules}
 use mir.Syntax.{w64}
 use Rattle.laws.specs.Exact.{Node, fits, value, int, result, sub, cast}
 use Rattle.momentum.proofs.Bounds.{carried-within}

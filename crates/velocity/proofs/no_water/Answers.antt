@@ -1,6 +1,5 @@
 -- `no_water`: the test for 0 compares bits, and H' fits its word.
 use mathlib.Core.Path.{◌∙◌}
-use borrow.Author.Rules.{rules}
 use mir.Syntax.{w32}
 use Rattle.laws.specs.Exact.{Node, fits, result, zero_test}
 use Rattle.velocity.proofs.Bounds.{sum-within}

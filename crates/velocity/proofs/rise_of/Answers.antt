@@ -1,6 +1,5 @@
 -- `rise_of`: each engine's own, and the first one's cast to 64 bits.
 use mathlib.Core.Path.{◌∙◌}
-use borrow.Author.Rules.{rules}
 use mir.Syntax.{w64}
 use mir.Facts.{to_z-of_z}
 use Rattle.laws.specs.Exact.{Node, fits, value, result, cast}

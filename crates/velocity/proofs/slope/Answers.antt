@@ -1,7 +1,6 @@
 -- `slope`: the products fit in 64 bits, the divisor is above 0, and `/` cuts towards zero as S does; without a rise there is no slope.
 use mathlib.Core.Path.{sym}
 use native.Mathlib.Omega.{arith}
-use borrow.Author.Rules.{rules}
 use mir.Syntax.{w64}
 use Rattle.rules.specs.Step.{slope}
 use Rattle.laws.specs.Exact.{Node, fits, value, divides, is_zero_lem, int, nat, lit, mul, quot}

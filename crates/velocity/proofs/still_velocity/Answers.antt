@@ -1,6 +1,5 @@
 -- `still_velocity`: without water, on a level surface and on a bank nothing pulls where nothing is carried; elsewhere the slope alone does.
 use mathlib.Core.Path.{◌∙◌, sym}
-use borrow.Author.Rules.{rules}
 use mir.Syntax.{w32, w64}
 use Rattle.laws.specs.Velocity.{without_water, on_a_bank, slope_alone, nothing_pulls}
 use Rattle.laws.specs.Exact.{Node, fits, value, is_zero_lem, says_zero, says_other, lit, result, sub, cast}

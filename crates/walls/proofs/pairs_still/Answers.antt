@@ -1,13 +1,12 @@
 use mathlib.Core.Path.{◌≡◌, ap, ap₂, ◌∙◌}
-use mathlib.Core.Bool.{◌&&◌}
-use Prim.Native.Nat.{◌+◌, ◌*◌, ◌-◌, ◌<◌}
+use Prim.Native.Nat.{◌+◌, ◌*◌, ◌<◌}
 use native.Mathlib.Omega.{arith}
 use lib.IntN.{pos}
 use lib.ListN.{length, get_or}
 use mir.Syntax.{w32}
 use mir.Facts.{to_z-of_z}
 use Rattle.rules.specs.Site.{is_zero}
-use Rattle.laws.specs.Gather.{Gathered, gather_none, gather_more, gather_all}
+use Rattle.laws.specs.Gather.{gather_none, gather_more, gather_all}
 use Rattle.walls.proofs.pairs_still.Goals as goal
 
 pub loop-k-init : goal.loop-k-init

@@ -1,5 +1,4 @@
 -- `walls_still`: the four walls where they stand in the flat list.
-use borrow.Author.Rules.{rules}
 use Prim.Native.Nat.{◌+◌}
 use mathlib.Core.Path.{◌∙◌}
 use native.Mathlib.Omega.{arith}

@@ -1,5 +1,4 @@
 -- `water_depth_text`: all is handed on, and the height reaches the writer as it was.
-use borrow.Author.Rules.{rules}
 use mir.Facts.{to_z-of_z}
 use Rattle.water.proofs.water_depth_text.Goals as goal
 

@@ -13,5 +13,5 @@ returns c =
     let a = c.args in
     let depth : SFits w32 a.depth = c.ranges.depth in
     let both : c.gather.result ≡ gathered a.chambers.now (to_read a.card a.land.now a.state.now (length a.chambers.now)) =
-        c.gather.ensures ∙ ap (gathered a.chambers.now) c.to_read-read.ensures in
+    c.gather.ensures ∙ ap (gathered a.chambers.now) c.to_read-read.ensures in
     row_answers _ _ _ _ _ _ _ _ _ (rw both at (simp to_z-of_z at c.search_gathered.ensures))

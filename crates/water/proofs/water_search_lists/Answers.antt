@@ -1,5 +1,4 @@
 -- `water_search_lists`: all is handed on, and the depth reaches the search as it was.
-use borrow.Author.Rules.{rules}
 use mir.Facts.{to_z-of_z}
 use Rattle.water.proofs.water_search_lists.Goals as goal
 

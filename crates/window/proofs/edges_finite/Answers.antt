@@ -1,5 +1,4 @@
 -- `edges_finite`: four tests, joined as the definition joins them.
-use borrow.Author.Rules.{rules}
 use Rattle.rules.specs.Search.{edges_finite}
 use Rattle.window.proofs.edges_finite.Goals as goal
 

@@ -23,6 +23,7 @@ module _ (w : Window) (x y : ℤ) where
   by_y : {a b : Bool} → a ≡ true → a ≡ in_order w.west (as_float x) w.east → b ≡ in_order w.south (as_float y) w.north → b ≡ inside w x y
   unfolding inside
   by_y t e f = rw (sym e ∙ t) f
+
   by_x : {a : Bool} → a ≡ false → a ≡ in_order w.west (as_float x) w.east → false ≡ inside w x y
   unfolding inside
   by_x t e = rw (sym e ∙ t)

@@ -1,13 +1,9 @@
 -- `get_words`: one turn reads one word more.
-use mathlib.Core.Path.{◌≡◌, refl, ◌∙◌}
+use mathlib.Core.Path.{◌≡◌}
 use mathlib.Core.List.{◌++◌}
-use Prim.Native.Nat.{◌-◌, ◌≤◌}
-use native.Mathlib.Omega.{arith}
-use lib.ListN.{length, drop, length-set}
-use mir.Syntax.{w32}
-use mir.ValLaws.{to_z-of_z}
+use Prim.Native.Nat.{◌≤◌}
+use lib.ListN.{length, drop}
 use Rattle.rules.specs.Sheet.{words_in}
-use Rattle.words.proofs.Loops.{in_start, in_turn, in_end}
 use Rattle.words.proofs.get_words.Given as goal
 
 abbrev pub invariant-loop-i : goal.invariant-loop-i

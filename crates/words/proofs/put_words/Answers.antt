@@ -1,12 +1,10 @@
-use mathlib.Core.Path.{◌≡◌, refl, ap, ◌∙◌}
-use Prim.Native.Nat.{◌-◌, ◌≤◌}
+use mathlib.Core.Path.{refl, ap, ◌∙◌}
 use native.Mathlib.Omega.{arith}
 use lib.IntN.{pos}
-use lib.ListN.{length, take, get_or}
+use lib.ListN.{get_or}
 use mir.Syntax.{w32}
 use mir.ValLaws.{to_z-of_z}
-use Rattle.rules.specs.Sheet.{bits_of, words_bytes}
-use Rattle.laws.specs.Laid.{laid}
+use Rattle.rules.specs.Sheet.{bits_of}
 use Rattle.words.proofs.Loops.{words_start, words_turn, words_end}
 use Rattle.words.proofs.put_words.Goals as goal
 

@@ -1,14 +1,9 @@
 -- `put_words`: one turn lays one word behind those that were laid.
-use mathlib.Core.Path.{◌≡◌, refl, ap, ◌∙◌}
-use Prim.Native.Nat.{◌-◌, ◌≤◌}
-use native.Mathlib.Omega.{arith}
-use lib.IntN.{pos}
-use lib.ListN.{length, take, get_or}
-use mir.Syntax.{w32}
-use mir.ValLaws.{to_z-of_z}
-use Rattle.rules.specs.Sheet.{bits_of, words_bytes}
+use mathlib.Core.Path.{◌≡◌}
+use Prim.Native.Nat.{◌≤◌}
+use lib.ListN.{length, take}
+use Rattle.rules.specs.Sheet.{words_bytes}
 use Rattle.laws.specs.Laid.{laid}
-use Rattle.words.proofs.Loops.{words_start, words_turn, words_end}
 use Rattle.words.proofs.put_words.Given as goal
 
 abbrev pub invariant-loop-i : goal.invariant-loop-i

@@ -1,7 +1,6 @@
 -- `swapped`: the definition, which fits.
 use mathlib.Core.Path.{refl}
 use Rattle.laws.specs.Swapped.{swapped}
-use borrow.Author.Rules.{rules}
 use Rattle.words.proofs.swapped.Goals as goal
 
 pub returns : goal.returns

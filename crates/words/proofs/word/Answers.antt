@@ -8,7 +8,6 @@ use lib.Seq.{get_or-drop}
 use mir.Syntax.{w8}
 use mir.Val.{Fits}
 use Rattle.laws.specs.Swapped.{number_swapped}
-use borrow.Author.Rules.{rules}
 use Rattle.words.proofs.word.Goals as goal
 
 -- each of the four is a byte

@@ -1,7 +1,6 @@
 -- `face`: cells K and L lie on the site, so each of the eighteen places lies in its list, and its word is the number there.
 use mathlib.Core.Path.{◌∙◌}
 use native.Mathlib.Omega.{arith}
-use borrow.Author.Rules.{rules}
 use Rattle.laws.specs.Signed.{word_is}
 use Rattle.laws.specs.Places.{height_read}
 use Rattle.transfers.proofs.Sites.{facts, face_place}

@@ -1,7 +1,6 @@
 -- `above`: the test is whether the next face abreast lies in the grid; where it does its velocity is read, and else it is 0.
 use mathlib.Core.Path.{◌≡◌, ◌∙◌, sym}
 use mathlib.Core.Bool.{not, ◌&&◌}
-use borrow.Author.Rules.{rules}
 use lib.Dec.{ltb}
 use Rattle.layout.specs.Ways as Ways
 use Rattle.layout.specs.Ways.{forth}

@@ -2,7 +2,6 @@
 use mathlib.Core.Path.{◌∙◌}
 use mathlib.Core.Bool.{not}
 use native.Mathlib.Omega.{arith}
-use borrow.Author.Rules.{rules}
 use Rattle.laws.specs.Signed.{word_is}
 use Rattle.around.proofs.Around.{forth_more}
 use Rattle.around.proofs.Places.{in_range}

@@ -36,6 +36,7 @@ module _ {c : Card} {s : List ℤ} (i j : ℕ) (cell : Cell) (sound : SoundState
         side_x = side_fits sound true;
         side_y = side_fits sound false;
       }
+
   limit_is : {kept : Bool}
       → kept ≡ leb (c.dt * ((backward (word cell.west) + forward (word cell.east)) * c.dy + (backward (word cell.south) + forward (word cell.north)) * c.dx)) (1000 * (c.dx * c.dy))
       → kept ≡ within_limit c (read_state c s) i j

@@ -1,11 +1,8 @@
 use mathlib.Core.Path.{sym, ◌∙◌}
-use Prim.Native.Nat.{◌-◌}
 use native.Mathlib.Omega.{arith}
 use borrow.Author.Rules.{rules}
-use borrow.Author.Tests.{not-true, not-false}
-use Rattle.rules.specs.Site.{read_state}
 use Rattle.rules.specs.Step.{within_limit, limit_kept}
-use Rattle.laws.specs.Looks.{RowsPass, CellsPass, begin, begin_row, more, more_rows, whole_row, done, broke}
+use Rattle.laws.specs.Looks.{begin, begin_row, more, more_rows, whole_row, done, broke}
 use Rattle.still.specs.Rows.{CellsStill}
 use Rattle.heights.proofs.Still.{still_within}
 use Rattle.heights.proofs.look.limit_kept.Goals as goal

@@ -1,5 +1,4 @@
 -- `height_fits`: the word that is read is the height, and the test is the definition's.
-use borrow.Author.Rules.{rules}
 use Rattle.laws.specs.Signed.{word_is}
 use Rattle.heights.proofs.tide.height_fits.Goals as goal
 

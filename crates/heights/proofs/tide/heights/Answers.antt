@@ -1,11 +1,8 @@
 use mathlib.Core.Path.{◌∙◌}
-use Prim.Native.Nat.{◌-◌}
-use native.Mathlib.Omega.{arith}
-use borrow.Author.Rules.{rules}
-use Rattle.rules.specs.Site.{read_state, write_state}
+use Rattle.rules.specs.Site.{write_state}
 use Rattle.rules.specs.Step.{new_height}
 use Rattle.laws.specs.Signed.{word_is}
-use Rattle.laws.specs.Passes.{Rows, Cells, begin, begin_row, place, more, more_rows, done_front}
+use Rattle.laws.specs.Passes.{begin, begin_row, place, more, more_rows, done_front}
 use Rattle.laws.specs.Places.{room}
 use Rattle.transfers.specs.Tide.{tide, crossings}
 use Rattle.heights.proofs.tide.heights.Goals as goal

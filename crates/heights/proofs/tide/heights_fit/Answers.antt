@@ -1,16 +1,7 @@
-use mathlib.Core.Bool.{Bool}
-use mathlib.Core.List.{List}
-use Prim.Native.Nat.{ℕ, ◌-◌}
-use native.Mathlib.Omega.{arith}
 use borrow.Author.Rules.{rules}
-use lib.IntN.{ℤ, pos}
-use lib.Signed.{le_z}
-use Rattle.rules.specs.declared.Card.{Card}
-use Rattle.rules.specs.Site.{read_state}
-use Rattle.laws.specs.Gather.{RowsGathered, CellsGathered, rows_none, row_none, row_more, rows_more, rows_all}
+use Rattle.laws.specs.Gather.{rows_none, row_none, row_more, rows_more, rows_all}
 use Rattle.transfers.specs.Tide.{tide_fits}
 use Rattle.heights.proofs.tide.heights_fit.Goals as goal
-use Rattle.heights.proofs.tide.heights_fit.Invariants.{low}
 
 pub loop-j-init : goal.loop-j-init
 loop-j-init c = rows_none

@@ -1,15 +1,12 @@
 -- `heights_fit`: one turn gathers one more cell's test, row by row.
 use mathlib.Core.Bool.{Bool}
 use mathlib.Core.List.{List}
-use Prim.Native.Nat.{ℕ, ◌-◌}
-use native.Mathlib.Omega.{arith}
-use borrow.Author.Rules.{rules}
+use Prim.Native.Nat.{ℕ}
 use lib.IntN.{ℤ, pos}
 use lib.Signed.{le_z}
 use Rattle.rules.specs.declared.Card.{Card}
 use Rattle.rules.specs.Site.{read_state}
-use Rattle.laws.specs.Gather.{RowsGathered, CellsGathered, rows_none, row_none, row_more, rows_more, rows_all}
-use Rattle.transfers.specs.Tide.{tide_fits}
+use Rattle.laws.specs.Gather.{RowsGathered, CellsGathered}
 use Rattle.heights.proofs.tide.heights_fit.Given as goal
 
 -- what each cell is asked

@@ -3,7 +3,6 @@ use mathlib.Core.Path.{◌∙◌, ap}
 use Prim.Native.Nat.{ℕ}
 use native.Mathlib.Numerals.{add-one}
 use native.Mathlib.Omega.{arith}
-use borrow.Author.Rules.{rules}
 use Rattle.rules.specs.Site.{read_state}
 use Rattle.laws.specs.Signed.{word_is}
 use Rattle.layout.specs.Ways.{wide, high, speeds}

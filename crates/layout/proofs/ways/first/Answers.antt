@@ -7,7 +7,7 @@ use Rattle.layout.proofs.ways.first.Goals.{then-east, else-east}
 pub overflow_add-result : goal.overflow_add-result
 overflow_add-result c =
     let few : c.if-east.skipped ≤ c.args.card.rows * (c.args.card.columns + 1) =
-        elim c.if-east.branch [ then-east w ↦ omega (arith, w.skipped-is) | else-east w ↦ omega (arith, w.skipped-is) ] in
+    elim c.if-east.branch [ then-east w ↦ omega (arith, w.skipped-is) | else-east w ↦ omega (arith, w.skipped-is) ] in
     omega (arith, few)
 
 pub returns : goal.returns

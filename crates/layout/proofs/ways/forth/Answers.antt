@@ -1,6 +1,5 @@
 -- `forth`: one addition to a number of at most 128, and the test picks the definition's case.
 use native.Mathlib.Numerals.{add-one}
-use borrow.Author.Rules.{rules}
 use Rattle.layout.specs.Ways.{forth}
 use Rattle.layout.proofs.ways.forth.Goals as goal
 

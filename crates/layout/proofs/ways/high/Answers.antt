@@ -1,6 +1,5 @@
 -- `high`: the rows, or one more; rows are a u32, so that one more does not wrap, and the test picks the definition's case.
 use native.Mathlib.Numerals.{add-one}
-use borrow.Author.Rules.{rules}
 use Rattle.layout.specs.Ways.{high}
 use Rattle.layout.proofs.ways.high.Goals as goal
 

@@ -1,5 +1,4 @@
 -- `is_wall`: two tests for each way, joined as the definition joins them.
-use borrow.Author.Rules.{rules}
 use Rattle.layout.specs.Ways.{is_wall}
 use Rattle.layout.proofs.ways.is_wall.Goals as goal
 

@@ -1,6 +1,5 @@
 -- `wide`: the columns, or one more; columns are a u32, so that one more does not wrap, and the test picks the definition's case.
 use native.Mathlib.Numerals.{add-one}
-use borrow.Author.Rules.{rules}
 use Rattle.layout.specs.Ways.{wide}
 use Rattle.layout.proofs.ways.wide.Goals as goal
 

@@ -1,6 +1,5 @@
 -- `face_at`: a face's place by the start and the width of its way's grid lies in the list, and its word is what stands there.
 use mathlib.Core.Path.{◌∙◌}
-use borrow.Author.Rules.{rules}
 use Rattle.laws.specs.Signed.{word_is}
 use Rattle.layout.proofs.Pointing.{face_in, face_read}
 use Rattle.layout.proofs.words.face_at.Goals as goal

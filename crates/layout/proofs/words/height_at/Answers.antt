@@ -1,5 +1,4 @@
 -- `height_at`: the heights stand first in a state, row by row, so that a cell's place lies in the list and its word is the height.
-use borrow.Author.Rules.{rules}
 use mathlib.Core.Path.{◌∙◌}
 use Rattle.laws.specs.Signed.{word_is}
 use Rattle.laws.specs.Places.{height_in, height_read}

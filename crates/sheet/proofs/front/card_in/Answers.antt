@@ -1,6 +1,5 @@
 -- `card_in`: field by field.
 use Rattle.rules.specs.Sheet.{card_in}
-use borrow.Author.Rules.{rules}
 use Rattle.sheet.proofs.front.card_in.Goals as goal
 
 pub returns : goal.returns

@@ -3,12 +3,10 @@ use mathlib.Core.Path.{◌≡◌, sym, ap, ◌∙◌}
 use mathlib.Core.Bool.{true, ◌&&◌}
 use lib.Dec.{eqb}
 use lib.ListN.{length}
-use borrow.Author.Tests.{not-true, not-false}
 use Rattle.rules.specs.Site.{card_fits}
 use Rattle.rules.specs.Sheet.{card_in, head_fits, sheet_lengths_fit}
 use Rattle.laws.specs.Sheets.{head_facts}
 use Rattle.sheet.specs.Front.{front_9, front_1, front_2, front_0}
-use borrow.Author.Rules.{rules}
 use Rattle.sheet.proofs.front.front_number.Goals as goal
 
 pub returns-then-not-head_fits : goal.returns-then-not-head_fits

@@ -1,6 +1,5 @@
 -- `head_fits`: a sheet of at least 19 bytes has the fields that the definition reads.
 use Rattle.sheet.proofs.Heads.{head_short, head_long}
-use borrow.Author.Rules.{rules}
 use Rattle.sheet.proofs.front.head_fits.Goals as goal
 
 pub returns-then-sheet-lt19 : goal.returns-then-sheet-lt19

@@ -4,7 +4,6 @@ use native.Mathlib.Omega.{arith}
 use Rattle.rules.specs.Sheet.{sheet_size}
 use Rattle.laws.specs.Facts.{card_facts}
 use Rattle.laws.specs.Sheets.{size_high}
-use borrow.Author.Rules.{rules}
 use Rattle.sheet.proofs.size.sheet_size.Goals as goal
 
 pub overflow_mul-result : goal.overflow_mul-result

@@ -1,13 +1,11 @@
 use mathlib.Core.Path.{ap, ap₂, ◌∙◌}
-use mathlib.Core.Bool.{◌&&◌}
-use Prim.Native.Nat.{ℕ, ◌+◌, ◌*◌, ◌-◌, ◌≤◌}
+use Prim.Native.Nat.{ℕ, ◌+◌, ◌*◌, ◌≤◌}
 use native.Mathlib.Omega.{arith}
 use lib.ListN.{length}
 use mir.Syntax.{w32}
 use mir.Facts.{to_z-of_z}
 use Rattle.rules.specs.Site.{is_zero}
-use Rattle.laws.specs.Gather.{Gathered, gather_none, gather_more, gather_all}
-use Rattle.laws.specs.Words.{word_at}
+use Rattle.laws.specs.Gather.{gather_none, gather_more, gather_all}
 use Rattle.sheet_reader.proofs.look.pairs_still.Goals as goal
 
 pub loop-k-init : goal.loop-k-init

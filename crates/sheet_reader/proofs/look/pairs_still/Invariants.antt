@@ -1,13 +1,8 @@
 -- `pairs_still`: one turn gathers the test of one more pair.
-use mathlib.Core.Path.{ap, ap₂, ◌∙◌}
 use mathlib.Core.Bool.{◌&&◌}
-use Prim.Native.Nat.{ℕ, ◌+◌, ◌*◌, ◌-◌, ◌≤◌}
-use native.Mathlib.Omega.{arith}
-use lib.ListN.{length}
-use mir.Syntax.{w32}
-use mir.Facts.{to_z-of_z}
+use Prim.Native.Nat.{◌+◌, ◌*◌}
 use Rattle.rules.specs.Site.{is_zero}
-use Rattle.laws.specs.Gather.{Gathered, gather_none, gather_more, gather_all}
+use Rattle.laws.specs.Gather.{Gathered}
 use Rattle.laws.specs.Words.{word_at}
 use Rattle.sheet_reader.proofs.look.pairs_still.Given as goal
 

@@ -1,5 +1,4 @@
 -- `values_fit`: the bands lie in the sheet, and are the ground's and the state's.
-use borrow.Author.Rules.{rules}
 use Prim.Native.Nat.{◌+◌, ◌*◌, ◌-◌}
 use mathlib.Core.Path.{◌∙◌}
 use native.Mathlib.Omega.{arith}

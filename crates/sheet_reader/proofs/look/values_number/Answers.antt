@@ -1,6 +1,5 @@
 -- `values_number`: 3 where the values fail, and 0 where all passed.
 use mathlib.Core.Path.{sym, ◌∙◌}
-use borrow.Author.Tests.{not-true, not-false}
 use Rattle.laws.specs.Sheets.{head_facts}
 use Rattle.sheet_reader.proofs.Reading.{front_shaped, number_3, number_0}
 use Rattle.sheet_reader.proofs.look.values_number.Goals as goal

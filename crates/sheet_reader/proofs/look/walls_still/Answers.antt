@@ -1,8 +1,6 @@
 -- `walls_still`: the four walls where they stand behind the sheet's land.
-use borrow.Author.Rules.{rules}
 use Prim.Native.Nat.{◌+◌, ◌*◌}
 use mathlib.Core.Path.{sym, ap₂, ◌∙◌}
-use mathlib.Core.Bool.{◌&&◌}
 use native.Mathlib.Omega.{arith}
 use Rattle.rules.specs.Sheet.{state_in}
 use Rattle.laws.specs.Facts.{card_facts}

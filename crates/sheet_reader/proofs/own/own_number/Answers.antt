@@ -1,13 +1,11 @@
 -- `own_number`: the lists have the lengths that the header asks for.
 use mathlib.Core.Path.{◌≡◌, sym, ap, ◌∙◌}
 use mathlib.Core.Bool.{true}
-use borrow.Author.Tests.{not-true, not-false}
 use Rattle.rules.specs.Site.{cells, state_length, card_fits}
 use Rattle.rules.specs.Sheet.{card_in, head_fits, read_number}
 use Rattle.laws.specs.Sheets.{head_facts}
 use Rattle.sheet.specs.Front.{front_9, front_1, front_told, front_refused, front_facts}
 use Rattle.sheet_reader.proofs.Reading.{front_own}
-use borrow.Author.Rules.{rules}
 use Rattle.sheet_reader.proofs.own.own_number.Goals as goal
 
 pub returns-then-not-head_fits : goal.returns-then-not-head_fits

@@ -1,7 +1,6 @@
 -- `card_with`: the header's card where the number is 0.
 use mathlib.Core.Path.{sym, ◌∙◌}
 use Rattle.laws.specs.Outcomes.{if_done_lem, if_refused}
-use borrow.Author.Rules.{rules}
 use Rattle.sheet_reader.proofs.reader.card_with.Goals as goal
 
 pub returns-then-number-ne0 : goal.returns-then-number-ne0

@@ -1,6 +1,5 @@
 -- `fill`: where the number is 0 the words are read, and else nothing is written.
 use mathlib.Core.Path.{sym, ◌∙◌}
-use borrow.Author.Rules.{rules}
 use Rattle.laws.specs.Outcomes.{if_done_lem, if_refused}
 use Rattle.sheet_reader.proofs.reader.fill.Goals as goal
 

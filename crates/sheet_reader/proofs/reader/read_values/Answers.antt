@@ -6,7 +6,6 @@ use lib.IntN.{ℤ}
 use Rattle.rules.specs.Site.{if_done}
 use Rattle.laws.specs.Sheets.{head_facts}
 use Rattle.sheet_reader.proofs.Reading.{front_own, number_own, long, ground_is, state_is, answered}
-use borrow.Author.Rules.{rules}
 use Rattle.sheet_reader.proofs.reader.read_values.Goals as goal
 
 pub values_number-number-requires : goal.values_number-number-requires

@@ -1,17 +1,13 @@
 use mathlib.Core.Path.{sym, ap₂, ◌∙◌}
 use mathlib.Core.Bool.{not}
-use Prim.Native.Nat.{◌*◌, ◌-◌}
 use native.Mathlib.Nat.{le_refl}
 use native.Mathlib.Omega.{arith}
-use borrow.Author.Rules.{rules}
-use borrow.Author.Tests.{not-true, not-false}
+use borrow.Author.Tests.{not-true}
 use Rattle.rules.specs.Site.{speed_fits}
-use Rattle.laws.specs.Engines.{engine}
 use Rattle.laws.specs.Tests.{true_of, and_left, and_right, to_T}
 use Rattle.laws.specs.Passes.{place}
-use Rattle.laws.specs.Tested.{RowsTested, CellsTested, begin, begin_row, more, more_rows, done, left}
+use Rattle.laws.specs.Tested.{begin, begin_row, more, more_rows, done, left}
 use Rattle.still.proofs.Rows.{both_rows}
-use Rattle.velocities.specs.Velocities.{new_speeds}
 use Rattle.velocities.proofs.Speeds.{speed_says, speed_fits_word, speed_word}
 use Rattle.velocities.proofs.passes.pass.Goals as goal
 
@@ -26,11 +22,11 @@ loop-i-init c = begin_row c.loop-j.invariant
 
 pub velocity-u-requires : goal.velocity-u-requires
 velocity-u-requires c = record {
-      flowing = c.requires.flowing;
-      face = record { column = omega (arith, c.wide-wide.ensures); row = omega (arith, c.high-high.ensures) };
-      both = λ t. both_rows c.requires.marked _ (omega (arith, c.high-high.ensures)) (sym c.both_still.ensures ∙ true_of _ (and_right (not c.args.textbook) _ (to_T t)));
-      first_engine = λ t. not-true _ (true_of _ (and_left (not c.args.textbook) _ (to_T t)));
-    }
+  flowing = c.requires.flowing;
+  face = record { column = omega (arith, c.wide-wide.ensures); row = omega (arith, c.high-high.ensures) };
+  both = λ t. both_rows c.requires.marked _ (omega (arith, c.high-high.ensures)) (sym c.both_still.ensures ∙ true_of _ (and_right (not c.args.textbook) _ (to_T t)));
+  first_engine = λ t. not-true _ (true_of _ (and_left (not c.args.textbook) _ (to_T t)));
+}
 
 pub returns-then-not-speed_fits : goal.returns-then-not-speed_fits
 returns-then-not-speed_fits c =

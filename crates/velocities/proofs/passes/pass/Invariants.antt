@@ -1,19 +1,8 @@
 -- `pass`: every velocity so far fits and is stored in its place, and one that does not fit decides for all.
-use mathlib.Core.Path.{sym, ap₂, ◌∙◌}
-use mathlib.Core.Bool.{not}
-use Prim.Native.Nat.{◌*◌, ◌-◌}
-use native.Mathlib.Nat.{le_refl}
-use native.Mathlib.Omega.{arith}
-use borrow.Author.Rules.{rules}
-use borrow.Author.Tests.{not-true, not-false}
 use Rattle.rules.specs.Site.{speed_fits}
 use Rattle.laws.specs.Engines.{engine}
-use Rattle.laws.specs.Tests.{true_of, and_left, and_right, to_T}
-use Rattle.laws.specs.Passes.{place}
-use Rattle.laws.specs.Tested.{RowsTested, CellsTested, begin, begin_row, more, more_rows, done, left}
-use Rattle.still.proofs.Rows.{both_rows}
+use Rattle.laws.specs.Tested.{RowsTested, CellsTested}
 use Rattle.velocities.specs.Velocities.{new_speeds}
-use Rattle.velocities.proofs.Speeds.{speed_says, speed_fits_word, speed_word}
 use Rattle.velocities.proofs.passes.pass.Given as goal
 
 abbrev pub invariant-loop-i : goal.invariant-loop-i

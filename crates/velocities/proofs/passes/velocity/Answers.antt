@@ -2,7 +2,6 @@
 use mir.Syntax.{w64}
 use mathlib.Core.Path.{◌≡◌, ◌∙◌, sym}
 use mathlib.Core.Bool.{false}
-use borrow.Author.Rules.{rules}
 use mir.Facts.{to_z-of_z}
 use Rattle.layout.specs.Ways.{is_wall}
 use Rattle.layout.proofs.Pointing.{beside}

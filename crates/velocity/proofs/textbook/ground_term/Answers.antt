@@ -1,5 +1,4 @@
 -- `ground_term`: the mean height, the difference of two land levels, and their product fit in 64 bits.
-use borrow.Author.Rules.{rules}
 use mir.Syntax.{w64}
 use Rattle.rules.specs.Textbook.{ground_term}
 use Rattle.laws.specs.Exact.{Node, fits, value, result, sub, mul}

@@ -1,5 +1,4 @@
 -- `textbook::rise`: both terms and their sum fit in 64 bits, and H' is not 0.
-use borrow.Author.Rules.{rules}
 use mir.Syntax.{w64}
 use Rattle.rules.specs.Textbook.{textbook_rise}
 use Rattle.laws.specs.Numbers.{not_0_is_above}
