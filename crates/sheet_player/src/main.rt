@@ -13,7 +13,15 @@ fn answer(rt: &impl Print, input: &[u8]) -> io::Result<()> {
 
 // One byte more than a sheet may have is enough to see that there are too many.
 fn main(rt: HostRuntime) -> io::Result<()> {
-    let mut input = Vec::new(rt.alloc());
-    rt.reader().take(16660).read_to_end(&mut input)?;
-    answer(&rt, &input)
+    let mut input = [0u8; 16660];
+    let mut reader = rt.reader();
+    let mut n = 0;
+    while n < 16660 {
+        let more = reader.read(&mut input[n..])?;
+        if more == 0 {
+            break;
+        }
+        n += more;
+    }
+    answer(&rt, &input[..n])
 }

@@ -1,4 +1,5 @@
 -- `stands`: one turn joins one word's test to those before.
+use mathlib.Core.Bool.{◌||◌}
 use Rattle.pins_rules.specs.Table.{stands as table_stands}
 use Rattle.pins_laws.specs.Folds.{Folding}
 use Rattle.pin_table.proofs.stands.Given as goal

@@ -1,4 +1,5 @@
 -- `words_fit`: one turn joins one word's test to those before.
+use mathlib.Core.Bool.{◌&&◌}
 use Rattle.pins_rules.specs.Table.{words_fit}
 use Rattle.pins_laws.specs.Folds.{Folding}
 use Rattle.pin_table.proofs.words_fit.Given as goal

@@ -1,4 +1,5 @@
 -- `walls_still`: the four walls where they stand behind the sheet's land.
+use mathlib.Core.Bool.{◌&&◌}
 use Prim.Native.Nat.{◌+◌, ◌*◌}
 use mathlib.Core.Path.{sym, ap₂, ◌∙◌}
 use native.Mathlib.Omega.{arith}

@@ -1,3 +1,4 @@
+use Prim.Native.Nat.{◌*◌}
 use mathlib.Core.Path.{sym, ap₂, ◌∙◌}
 use mathlib.Core.Bool.{not}
 use native.Mathlib.Nat.{le_refl}

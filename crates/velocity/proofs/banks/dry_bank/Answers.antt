@@ -1,6 +1,6 @@
 -- `dry_bank`: both surfaces fit in 32 bits, and each cell is tested beside the other.
 use mathlib.Core.Path.{◌≡◌, ◌∙◌, ap₂}
-use mathlib.Core.Bool.{Bool}
+use mathlib.Core.Bool.{◌||◌, Bool}
 use mir.Syntax.{w32}
 use Rattle.rules.specs.Step.{is_bank, dry_bank}
 use Rattle.laws.specs.Exact.{Node, read, fits, value}
