@@ -10,7 +10,7 @@ loop-k-init c = gather_none
 
 pub loop-k-preserved : goal.loop-k-preserved
 loop-k-preserved c =
-    let word = to_z-of_z {c = w32} {z = c.word_at.result} (record { sfits = c.word_at.type_inv }) ∙ c.word_at.ensures in
+    let word = to_z-of_z {w = w32} {z = c.word_at.result} (record { sfits = c.word_at.type_inv }) ∙ c.word_at.ensures in
     gather_more c.loop-k.invariant c.loop-k-test.true (c.is_between-ok.ensures ∙ simp word)
 
 pub returns : goal.returns

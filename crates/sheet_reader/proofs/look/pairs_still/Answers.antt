@@ -47,8 +47,8 @@ is_zero-requires-in-loop-k c = tt
 
 pub loop-k-preserved : goal.loop-k-preserved
 loop-k-preserved c =
-    let one = c.is_zero.ensures ∙ ap is_zero (to_z-of_z {w = w32} {c = c.word_at-a.result} (record { sfits = c.word_at-a.type_inv }) ∙ c.word_at-a.ensures) in
-    let two = c.is_zero-in-loop-k.ensures ∙ ap is_zero (to_z-of_z {w = w32} {c = c.word_at-b.result} (record { sfits = c.word_at-b.type_inv }) ∙ c.word_at-b.ensures) in
+    let one = c.is_zero.ensures ∙ ap is_zero (to_z-of_z {w = w32} {z = c.word_at-a.result} (record { sfits = c.word_at-a.type_inv }) ∙ c.word_at-a.ensures) in
+    let two = c.is_zero-in-loop-k.ensures ∙ ap is_zero (to_z-of_z {w = w32} {z = c.word_at-b.result} (record { sfits = c.word_at-b.type_inv }) ∙ c.word_at-b.ensures) in
     gather_more c.loop-k.invariant c.loop-k-test.true (ap₂ ◌&&◌ one two)
 
 pub returns : goal.returns
