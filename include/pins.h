@@ -1,6 +1,6 @@
 /* pins.h: what a host links to keep the pins of two crews. Document 02, [13], says what each call does, and so do the definitions in
  * crates/pins_rules/specs, which stand in the repository; this page says how C reaches it. The archive is libpins.a, made by
- * `rt staticlib pins`. It needs no other, and goes into one program with libwater.a.
+ * `./archives pins`. It needs no other, and goes into one program with libwater.a.
  *
  * Two crews, 1 and 2, put pins on chambers of one register, 0 to 999, in one shared table of 64 places. A crew can add, remove and list its
  * own pins. Both may have a pin on the same chamber; each may have 32 pins at most.

@@ -12,7 +12,7 @@ fn main() {
     println!("cargo:rerun-if-changed={}", archive.display());
     if !archive.is_file() {
         fail(&format!(
-            "{} is not there. Make it with `rt staticlib pins` at the repository's root (or let host/check do it), \
+            "{} is not there. Make it with `./archives pins` at the repository's root (or let host/check do it), \
              or set PINS_LIB_DIR to the folder that has it.",
             archive.display()
         ));
@@ -20,7 +20,7 @@ fn main() {
     let machine = env::var("CARGO_CFG_TARGET_ARCH").unwrap();
     if machine != "x86_64" && env::var_os("PINS_LIB_DIR").is_none() {
         fail(&format!(
-            "`rt staticlib` compiles for x86-64 alone, and this build is for {machine}. Build for x86-64 and run under an emulator: \
+            "`./archives` compiles for x86-64 alone, and this build is for {machine}. Build for x86-64 and run under an emulator: \
              host/check shows how, and does it."
         ));
     }

@@ -34,7 +34,7 @@
 //!
 //! # The archive
 //!
-//! The archive is made by `rt staticlib water` at the repository's root, and found there by this package's build script; the variable
+//! The archive is made by `./archives water` at the repository's root, and found there by this package's build script; the variable
 //! `WATER_LIB_DIR` names the folder of another one.
 
 pub mod calls;

@@ -33,7 +33,7 @@
 //!
 //! # The archive
 //!
-//! The archive is made by `rt staticlib pins` at the repository's root, and found there by this package's build script; the variable
+//! The archive is made by `./archives pins` at the repository's root, and found there by this package's build script; the variable
 //! `PINS_LIB_DIR` names the folder of another one.
 #![deny(missing_docs)]
 

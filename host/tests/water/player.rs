@@ -20,7 +20,7 @@ fn player() -> Command {
     };
     assert!(
         binary.is_file(),
-        "{} is not there: `rt check sheet_player` at the repository's root makes it, or set WATER_PLAYER",
+        "{} is not there: `./play --make` at the repository's root makes it, or set WATER_PLAYER",
         binary.display()
     );
     match std::env::var_os("WATER_RUNNER") {
