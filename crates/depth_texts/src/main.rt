@@ -1,5 +1,5 @@
 // The depth text as its callers in Rattle have it: the part that is handed back, and the whole scratch once that part's loan is over.
-// No contract can say what the rest of the scratch holds, so the stored output does. Each line ends with what `spoilt` leaves, which meets the same contract.
+// The contract does not say what the rest of the scratch holds, so the stored output does. Each line ends with what `spoilt` leaves, which meets the same contract.
 #![tactic(auto)]
 
 mod spoilt;
