@@ -3,3 +3,4 @@ pub mod Shares
 pub mod Fair
 pub mod Walls
 pub mod Sums
+pub mod Starred
