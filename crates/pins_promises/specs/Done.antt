@@ -9,10 +9,8 @@ use Rattle.pins_rules.specs.Calls.{add_number, add_table, remove_number, remove_
 use Rattle.pins_laws.specs.Words.{crew_is}
 use Rattle.pins_laws.specs.Sound.{Left, pin_comes, pin_goes}
 use Rattle.pins_laws.specs.Granted.{add_granted, remove_granted}
-use Rattle.pins_promises.specs.Histories.{Call, by, answer, after}
-use Rattle.pins_promises.specs.OwnCalls.{same_answer, others_alike}
+use Rattle.pins_promises.specs.Histories.{Call, by, after}
 use Rattle.pins_promises.specs.OneCall.{others_keep}
-use Rattle.pins_promises.specs.ForEver.{Passes, passing_sound}
 
 -- the crew has this pin now, or has it no more, and every other pin of either crew is as it was
 pub record OnePin (table : List ℕ) (crew chamber : ℕ) (has : Bool) (table' : List ℕ) : Type 0 where
@@ -40,9 +38,3 @@ remove_unpins table crew chamber e =
 pub untouched : (table : List ℕ) (call : Call) (crew : ℕ) → is_crew crew ≡ true → (by call ≡ crew → ⊥) → pins_of (after table call) crew ≡ pins_of table crew
 unfolding pins_of
 untouched table call crew k other = places_same 1000 (pinned (after table call) crew) (pinned table crew) (λ chamber h. others_keep table call crew chamber other (crew_is (to_T k)) h)
-
--- and on a table that passes it changes no answer to this crew
-pub undisturbed : (table : List ℕ) → Passes table → (call own : Call) (crew : ℕ) → (by call ≡ crew → ⊥) → by own ≡ crew → answer (after table call) own ≡ answer table own
-undisturbed table p call own crew other is =
-    let s = passing_sound p in
-    same_answer (others_alike (record { first = s; second = s; same = λ k chamber h. refl }) call other) own is

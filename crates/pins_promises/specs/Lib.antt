@@ -1,6 +1,5 @@
 pub mod Histories
 pub mod OneCall
-pub mod OwnCalls
 pub mod OneOutcome
 pub mod Refused
 pub mod Done

@@ -1,18 +1,16 @@
 -- What follows from the pin table's rules. Read this file first: it states each promise, or names the file that states it.
--- Nothing is assumed but what a promise says before its last arrow.
-use Rattle.std.specs.Prelude.{ℕ, ◌≡◌, refl, List}
-use Rattle.std.proofs.Common.{sym, ◌∙◌, ap}
+-- Nothing is assumed but what a promise says before its last arrow. Two theorems are proved in proofs/: `own_calls_only`, of the statement below (Promises.antt there),
+-- and `undisturbed` (Done.antt there).
+use Rattle.std.specs.Prelude.{ℕ, ◌≡◌, List}
 use Rattle.pins_rules.specs.Table.{empty}
-use Rattle.pins_laws.specs.Sound.{empty_sound}
 use Rattle.pins_promises.specs.Histories.{Call, calls_of, answers_to}
-use Rattle.pins_promises.specs.OwnCalls.{Alike, alone_from}
 -- of each public call: any two outcomes that its contract allows are equal, refused calls too
 pub use Rattle.pins_promises.specs.OneOutcome.{one_add, one_remove, one_list}
 -- a refused call leaves the table, or the lent list, as it was, and a refused listing has count 0
 pub use Rattle.pins_promises.specs.Refused.{add_refused, remove_refused, list_refused}
 -- what a call that is done does: the crew has the pin, or has it no more, and every other pin of either crew is as it was; and another crew's call takes no pin from
 -- a crew and gives it none, on any table, and on a table that passes changes no answer to it
-pub use Rattle.pins_promises.specs.Done.{add_pins, remove_unpins, untouched, undisturbed}
+pub use Rattle.pins_promises.specs.Done.{add_pins, remove_unpins, untouched}
 -- a listing: sound, complete and rising, as many as the crew has pins and never over 32, and the lent list as long as it was
 pub use Rattle.pins_promises.specs.Listed.{lists, counts, as_long_as_lent}
 -- a table that passes passes after every call, so that no call finds fault with one which calls made from an empty table, however long its history; an add with
@@ -27,11 +25,5 @@ pub use Rattle.pins_promises.specs.Shown.{place_and_count_differ}
 -- calls too, every count, and all that a listing leaves in the lent list.
 -- So no answer shows a place in the table, nor a count that crews share. Both change with what the other crew calls, of which the two histories may have anything
 -- or nothing: an answer that showed one of them would differ between two such histories (`place_and_count_differ` has two), and the statement would be false of them.
-pub own_calls_only : (crew : ℕ) (history other : List Call) → calls_of crew history ≡ calls_of crew other → answers_to crew empty history ≡ answers_to crew empty other
-own_calls_only crew history other same = alone crew history ∙ ap (answers_to crew empty) same ∙ sym (alone crew other)
-  where
-    alike : (crew : ℕ) → Alike crew empty empty
-    alike crew = record { first = empty_sound; second = empty_sound; same = λ k chamber h. refl }
-
-    alone : (crew : ℕ) (history : List Call) → answers_to crew empty history ≡ answers_to crew empty (calls_of crew history)
-    alone crew history = alone_from crew history empty empty (alike crew)
+abbrev pub OwnCallsOnly : Type 0
+OwnCallsOnly = (crew : ℕ) → (history other : List Call) → calls_of crew history ≡ calls_of crew other → answers_to crew empty history ≡ answers_to crew empty other

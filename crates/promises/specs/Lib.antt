@@ -1,4 +1,3 @@
-pub mod Promises
 pub mod Demand3
 pub mod TakenTwice
 pub mod NoPumps
@@ -8,12 +7,8 @@ pub mod NoNegativeShare
 pub mod InnerFaces
 pub mod WaterKept
 pub mod Brought
-pub mod OneSide
 pub mod WallsAre0
-pub mod WhatCame
 pub mod AtRest
-pub mod WhyStill
-pub mod StillWater
 pub mod Pond
 pub mod BothEngines
 pub mod Endings

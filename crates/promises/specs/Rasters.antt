@@ -236,24 +236,6 @@ module _ (text : List ℕ) (lent : List ℤ) (answered : Raster) (ground_at_exit
     small = λ k b. of_each (λ v. nat_abs v ≤ 50000000) done.small k (rw long_ground at b);
   }
 
-  -- with the columns, the rows and the side that were answered, and a time step and steps in their ranges
-  pub ground_taken : (c : Card) → c.columns ≡ answered.columns → c.rows ≡ answered.rows → c.dx ≡ answered.side → c.dy ≡ answered.side → times_fit c ≡ true → Taken c ground_at_exit
-  unfolding card_fits sizes_fit sides_fit grounds_fit read_ground
-  ground_taken c m n x y t =
-      let f = ground_fits_lem in
-      let wide = within_ends 1 128 answered.columns f.columns_low f.columns_high in
-      let high = within_ends 1 128 answered.rows f.rows_low f.rows_high in
-      let side = within_ends 100000 20000000 answered.side f.side_low f.side_high in
-      let long : length ground_at_exit ≡ c.rows * c.columns = f.long ∙ sym (ap₂ ◌*◌ n m) in
-      record {
-        card = rw (t, m, n, x, y, wide, high, side);
-        long = long;
-        values =
-            true_of _
-            (all_at_intro c.columns c.rows (λ i j. ground_fits (get_or ground_at_exit (j * c.columns + i) (pos 0)))
-            (λ i j hi hj. le→leb _ 50000000 (f.small (j * c.columns + i) (rw long (digits_lt hj hi)))));
-      }
-
   given_is_no_data : has_no_data ws ≡ true → is_no_data ws (no_data_in ws) ≡ true
   unfolding is_no_data
   given_is_no_data e = rw (e, true_of (le_z (no_data_in ws) (no_data_in ws)) (le_z_refl (no_data_in ws)))

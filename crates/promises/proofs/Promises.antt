@@ -14,10 +14,12 @@ use Rattle.promises.specs.EastWest as EastWest
 use Rattle.promises.specs.NorthSouth as NorthSouth
 use Rattle.promises.specs.SwapAxes as SwapAxes
 use Rattle.promises.specs.TheCall.{call_runs, call_steps, call_leaves}
-use Rattle.promises.specs.OneStep.{IsTheStep, is_the_step}
+use Rattle.promises.specs.OneStep.{IsTheStep}
+use Rattle.promises.proofs.OneStep.{is_the_step}
 use Rattle.promises.specs.NeverInTheMiddle.{keeps, Ends, ends}
 use Rattle.promises.specs.StepsWanted.{wanting}
-use Rattle.promises.specs.SiteSlices.{runs_joined, site_in_slices}
+use Rattle.promises.specs.SiteSlices.{runs_joined}
+use Rattle.promises.proofs.SiteSlices.{site_in_slices}
 -- of each public call: any two outcomes that its contract allows are equal, refused calls too
 pub use Rattle.promises.specs.OneOutcome.{one_step, one_run, one_search, one_row_search, one_reading, one_writing, one_text, one_staff, one_kind, one_raster_reading, one_raster_writing}
 -- and a refused call leaves every list as it was lent
@@ -33,32 +35,32 @@ pub use Rattle.promises.specs.Searches.{finds, as_long_as_lent, count_at_8, insi
 -- of document 02's [9], a face that counts only in the cell that its velocity points out of, in calls that are lent no pumps: a step which document 01's own limit
 -- accepted is accepted with the same next state, a run which it did not stop is the same run, no answer but 4 changed, nor any number but 4, whatever rule gives
 -- the new velocities; and, on numbers, what that limit accepted and refused
-pub use Rattle.promises.specs.NothingLost.{step_stays, run_stays, number_stays_by, number_stays, answer_stays, was_accepted, was_refused}
+pub use Rattle.promises.proofs.NothingLost.{step_stays, run_stays, number_stays_by, number_stays, answer_stays, was_accepted, was_refused}
 -- of document 02's [7], that refusal 6 has no input: no own share is negative where the step limit is kept; a step's number, its answer and a run with document
 -- 01's look for 6 are those without it; neither the step nor the run ever answers 6
-pub use Rattle.promises.specs.NoNegativeShare.{no_negative_share, number_without_6, run_without_6, answer_without_6, step_never_6, run_never_6}
+pub use Rattle.promises.proofs.NoNegativeShare.{no_negative_share, number_without_6, run_without_6, answer_without_6, step_never_6, run_never_6}
 -- of document 02's [8], that no water is made and none is lost: the sum of all heights after a step without pumps, and after such a run whatever its reason, is that
 -- before; so of the public calls; and how great it can be
-pub use Rattle.promises.specs.WaterKept.{next_sum_by, next_sum, run_sum, sum_of_the_step, sum_of_the_run, sum_fits}
+pub use Rattle.promises.proofs.WaterKept.{next_sum_by, next_sum, run_sum, sum_of_the_step, sum_of_the_run, sum_fits}
 -- and that what is carried stays between what came: the balance of each inner face; the bounds of the carried part of its new velocity, and that this velocity is
 -- that part less the slope, or 0 without water and on a dry bank; who does not count, walls, and what lies beyond them; and, on numbers, bounds that are met
-pub use Rattle.promises.specs.WhatCame.{balance, carried_between, slope_put_back, brought_nothing, walls_are_0, no_flow_beyond, bounds_on_numbers}
+pub use Rattle.promises.proofs.WhatCame.{balance, carried_between, slope_put_back, brought_nothing, walls_are_0, no_flow_beyond, bounds_on_numbers}
 -- of document 02's [2], that still water stays (`still_water`, AtRest.antt): all velocities 0, neighbouring wet cells of one surface, each dry cell's ground at or
 -- above its wet neighbours' surface. The step is accepted and leaves the state as it is, the run does all the steps wanted; so of the public calls that are lent no pumps;
 -- and, on numbers, a pond with a shore that lies still, and by how little it moves
-pub use Rattle.promises.specs.StillWater.{still_water_lem, still_of_the_step, still_of_the_run}
+pub use Rattle.promises.proofs.StillWater.{still_water_lem, still_of_the_step, still_of_the_run}
 pub use Rattle.promises.specs.Pond.{pond_on_numbers}
 -- of document 02's [5], the textbook engine beside the first one: the division of its two terms by H' leaves no rest; both give every face the same new velocity,
 -- 0 on a dry bank, so that what is promised of the one is promised of the other; every answer and every list of the textbook call is the first engine's, for every
 -- input, refused ones too
 pub use Rattle.promises.specs.BothEngines.{leaves_no_rest, one_rule, banks_in_both, carries_over, same_answer, same_next, engines_agree}
 -- of document 02's [10], pumps: end sum plus taken equals start sum plus added, of a step by either engine, of every run, and of the public calls
-pub use Rattle.promises.specs.WaterKept.{pumped_sum, run_balances, step_call_balances, run_call_balances}
+pub use Rattle.promises.proofs.WaterKept.{pumped_sum, run_balances, step_call_balances, run_call_balances}
 -- and with an empty list the pumped step, the checks and the run are those without pumps, for every input: so [2]'s still water and [8]'s sum hold for it
 pub use Rattle.promises.specs.NoPumps.{no_pumps_step, no_pumps_check, no_pumps_check_with, no_pumps_run}
 -- of document 02's [1], staff readings: a height differs from its product by at most half a micrometre, is never below it by that, and is one that every other call
 -- takes; a greater value of the same unit never gives a smaller height, and is not read where a smaller one is refused for its product; a refused reading has none
-pub use Rattle.promises.specs.Staffs.{metres_near, feet_near, metres_in_order, feet_in_order, staff_refused, kind_refused}
+pub use Rattle.promises.proofs.Staffs.{metres_near, feet_near, metres_in_order, feet_in_order, staff_refused, kind_refused}
 -- of document 02's [3], ground from the surveyor's raster: what we write we read back, columns, rows, side and ground, by the public calls
 pub use Rattle.promises.specs.Rasters.{raster_reads_back}
 -- and each value is exact: the number that its digits make, over ten for each digit behind the point, so that nothing is rounded; a minus makes it the negative; and
@@ -67,7 +69,8 @@ pub use Rattle.promises.specs.Rasters.{point_exact, digits_exact, minus_exact, p
 -- and of a read that is done: the ground has at each column and row the value that stands there in the text, the northern row first there and last here; columns, rows,
 -- side and ground are in their ranges, so that no call refuses a card for them or this ground; no height is the no-data value; and columns, rows and side are the
 -- text's own numbers
-pub use Rattle.promises.specs.Rasters.{value_at, value_decimal, ground_fits_lem, ground_taken, never_no_data, columns_are, rows_are, side_is}
+pub use Rattle.promises.specs.Rasters.{value_at, value_decimal, ground_fits_lem, never_no_data, columns_are, rows_are, side_is}
+pub use Rattle.promises.proofs.Rasters.{ground_taken}
 
 -- ---- Demand 3
 

@@ -12,7 +12,7 @@ use Rattle.rules.specs.Pumps.{PumpedOutcome, pumped_step}
 use Rattle.rules.specs.Calls.{step_answer, step_next, run_tally, run_state, run_scratch}
 use Rattle.laws.specs.Runs.{begun, stands}
 use Rattle.promises.specs.AtRest.{still_water}
-use Rattle.promises.specs.WhyStill.{rested, number_by, next_by}
+use Rattle.promises.proofs.WhyStill.{rested, number_by, next_by}
 use Rattle.promises.specs.Refused.{scratch_zero}
 use Rattle.promises.specs.TheCall.{as_long, call_steps, call_leaves, call_runs}
 use Rattle.promises.specs.NoPumps.{unpumped, no_pumps_step, no_pumps_check, no_pumps_run}

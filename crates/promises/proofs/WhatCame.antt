@@ -17,9 +17,9 @@ use Rattle.laws.specs.Velocity.{without_water, on_a_bank, elsewhere}
 use Rattle.laws.specs.Balance.{flow_over, share_and_inflow, east_balance, north_balance}
 use Rattle.laws.specs.Weighed.{at_least, at_most}
 use Rattle.promises.specs.InnerFaces.{EveryInner, EveryFace}
-use Rattle.promises.specs.NoNegativeShare.{no_negative_share}
+use Rattle.promises.proofs.NoNegativeShare.{no_negative_share}
 use Rattle.promises.specs.Brought.{if_brought, velocities_brought, among, least_counted, greatest_counted}
-use Rattle.promises.specs.OneSide.{picks_least, picks_greatest, on_its_side}
+use Rattle.promises.proofs.OneSide.{picks_least, picks_greatest, on_its_side}
 -- who does not count; that walls have velocity 0; and that beyond a side wall nothing comes
 pub use Rattle.promises.specs.Brought.{brought_nothing}
 pub use Rattle.promises.specs.WallsAre0.{walls_are_0, no_flow_beyond}

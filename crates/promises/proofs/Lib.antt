@@ -1,0 +1,13 @@
+pub mod Promises
+pub mod SiteSlices
+pub mod Slices
+pub mod Staffs
+pub mod NothingLost
+pub mod OneStep
+pub mod NoNegativeShare
+pub mod WaterKept
+pub mod Rasters
+pub mod StillWater
+pub mod WhyStill
+pub mod OneSide
+pub mod WhatCame
