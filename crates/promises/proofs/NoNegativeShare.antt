@@ -1,15 +1,13 @@
 -- Why what specs/NoNegativeShare.antt says holds.
 use Prim.Native.Nat.{ℕ, zero, suc, ◌≤◌}
-use Rattle.std.specs.Prelude.{◌≡◌, Bool, true, false, List, ℤ, pos, length, T}
+use Rattle.std.specs.Prelude.{◌≡◌, Bool, true, false, List, ℤ, length}
 use Rattle.std.proofs.Math.Path.{refl, sym, ap}
 use Rattle.std.proofs.Common.{subst, ◌∙◌, suc-ne-zero, arith}
-use Rattle.std.specs.Int.Signed.{le_z}
 use Rattle.rules.specs.declared.Card.{Card}
-use Rattle.rules.specs.Grid.{Field}
-use Rattle.rules.specs.Site.{Water, check_also, check, first_refusal, read_ground, read_state}
-use Rattle.rules.specs.Step.{Rule, east_face, north_face, own_share, new_velocity, limit_kept, new_heights_fit, new_velocities_fit, answer, number, step_number_by, next_state}
-use Rattle.rules.specs.Run.{Stepping, peak, site_step, run_from, history}
-use Rattle.rules.specs.Pumps.{check_pumped, check_pumped_with, pumping, pumped_step, reported, PumpedOutcome, pumped_run_after, pumped_run}
+use Rattle.rules.specs.Site.{check_also, check, first_refusal, read_ground, read_state}
+use Rattle.rules.specs.Step.{Rule, new_velocity, limit_kept, new_heights_fit, answer, number, step_number_by}
+use Rattle.rules.specs.Run.{site_step, run_from, history}
+use Rattle.rules.specs.Pumps.{check_pumped, check_pumped_with, pumped_step, reported, PumpedOutcome, pumped_run_after, pumped_run}
 use Rattle.rules.specs.Calls.{step_answer, run_outcome, run_tally, step_answer_by}
 use Rattle.laws.specs.Tests.{true_of, to_T}
 use Rattle.laws.specs.Checks.{at_most_3}
@@ -22,7 +20,7 @@ use Rattle.laws.specs.PumpChecks.{PumpsPass, checked, checked_of_with}
 use Rattle.laws.specs.Counting.{uncounted, told, counted, counting_follows}
 use Rattle.laws.specs.PumpedSteps.{pumping_follows, pumped-run, pumped_refused}
 use Rattle.laws.specs.Outcomes.{first_same}
-use Rattle.promises.specs.InnerFaces.{EveryInner, every_inner, inner_intro}
+use Rattle.promises.specs.InnerFaces.{every_inner, inner_intro}
 use Rattle.promises.specs.TheCall.{call_runs}
 use Rattle.promises.specs.NeverInTheMiddle.{OfAStep, done, over_the_limit, too_high, too_fast, pumped_numbers, Ends, ends}
 use Rattle.promises.specs.NoNegativeShare.{NoneNegative, answer_with6, east_share_fits, north_share_fits, number_with6, pumped_step_with6, shares_fit, step_with6}

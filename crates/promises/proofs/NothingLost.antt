@@ -1,13 +1,13 @@
 -- Why what specs/NothingLost.antt says holds.
-use Rattle.std.specs.Prelude.{ℕ, suc, ◌+◌, ◌*◌, ◌≡◌, refl, Bool, true, false, List, [], ℤ, pos, nat_abs, length, T, leb}
+use Rattle.std.specs.Prelude.{ℕ, suc, ◌≡◌, refl, Bool, true, false, List, [], ℤ, pos, length, T}
 use Rattle.std.proofs.Common.{sym, ap, ◌∙◌, le_trans, add-le-add, mul-le-mul_right, mul-le-mul_left, arith, leb→le, le→leb}
 use Rattle.rules.specs.declared.Card.{Card}
 use Rattle.rules.specs.Grid.{all, all_at}
-use Rattle.rules.specs.Site.{Water, check, first_refusal, read_ground, read_state}
-use Rattle.rules.specs.Step.{Rule, within_limit, new_velocity, limit_kept, new_heights_fit, new_velocities_fit, answer, number, step_number_by, step_number, next_state}
-use Rattle.rules.specs.Run.{Stepping, peak, run_from, site_step, run}
+use Rattle.rules.specs.Site.{Water, check, first_refusal, read_state}
+use Rattle.rules.specs.Step.{Rule, within_limit, new_velocity, limit_kept, answer, number, step_number_by, step_number}
+use Rattle.rules.specs.Run.{Stepping, run_from, site_step, run}
 use Rattle.rules.specs.Pumps.{check_pumped_with, pumped_step}
-use Rattle.rules.specs.Calls.{step_answer, step_next, run_outcome, step_answer_by}
+use Rattle.rules.specs.Calls.{step_answer, run_outcome, step_answer_by}
 use Rattle.rules.specs.Starred.{one_row, flat, two, passing, through}
 use Rattle.laws.specs.Grids.{all_at_at, all_at_intro}
 use Rattle.laws.specs.Outward.{forward_size, backward_size}
@@ -18,7 +18,7 @@ use Rattle.laws.specs.Runs.{begun}
 use Rattle.laws.specs.Follows.{Follows, follows}
 use Rattle.promises.specs.NoPumps.{unpumped, no_pumps_step, no_pumps_check, no_pumps_run}
 use Rattle.promises.specs.TheCall.{call_steps, call_leaves, call_runs}
-use Rattle.promises.specs.NoNegativeShare.{shares_fit, answer_with6}
+use Rattle.promises.specs.NoNegativeShare.{answer_with6}
 use Rattle.promises.proofs.NoNegativeShare.{passed_over, shares_fit_lem}
 use Rattle.promises.specs.NothingLost.{StillAccepted, within_old_limit, old_limit_kept, old_number_by, old_number, old_step}
 

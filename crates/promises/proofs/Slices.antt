@@ -4,7 +4,6 @@ use Rattle.std.specs.Prelude.{◌≡◌, refl, ℤ, T}
 use Rattle.std.proofs.Math.Path.{sym, ap}
 use Rattle.std.proofs.Common.{◌∙◌, add-zero, zero-add, suc-add, not-suc-le-zero, arith}
 use Rattle.std.specs.Int.Signed.{le_z}
-use Rattle.rules.specs.Grid.{max_z}
 use Rattle.rules.specs.Run.{Progress, SteppingOf, OutcomeOf, started, accepted, stopped_for, run_on, run_from}
 use Rattle.laws.specs.Numbers.{le_z_refl}
 use Rattle.laws.specs.Grids.{max_right}

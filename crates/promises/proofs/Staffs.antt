@@ -1,16 +1,15 @@
 -- Why what specs/Staffs.antt says holds.
-use Rattle.std.specs.Prelude.{ℕ, zero, suc, ◌+◌, ◌*◌, ◌≤◌, ◌<◌, ◌≡◌, refl, Bool, true, false, ◌&&◌, cond, T, ℤ, pos, nat_abs}
+use Rattle.std.specs.Prelude.{ℕ, zero, suc, ◌*◌, ◌<◌, ◌≡◌, refl, Bool, true, false, ◌&&◌, cond, T, pos}
 use Rattle.std.proofs.Common.{zero-le, sym, subst, lt_irrefl, arith, leb→le, le→leb}
 use Rattle.std.specs.Int.Signed.{le_z}
 use lib.Ieee.{Float, nan, inf, fin, binary64, up, down, mul, le, of_bits, of_int, round, units, odd, size, span, climb}
 use Rattle.std.specs.Int.Count.{count_trailing_zeros}
 use Rattle.std.specs.Float.Ieee.Fits.{down_pos}
-use Rattle.std.specs.Float.Ieee.Positive.{num, den, positive}
+use Rattle.std.specs.Float.Ieee.Positive.{positive}
 use Rattle.rules.specs.declared.Reading.{Reading}
 use Rattle.rules.specs.declared.Reading.TheVariants.{Metres, Feet, Nothing}
 use Rattle.rules.specs.declared.Staff.{Staff}
-use Rattle.rules.specs.Site.{height_fits}
-use Rattle.rules.specs.Search.{is_finite, as_float}
+use Rattle.rules.specs.Search.{as_float}
 use Rattle.rules.specs.Staff.{product, value_fits, product_fits, nearest_whole, with_height, without_height, measured}
 use Rattle.rules.specs.Calls.{staff_answer, kind_answer}
 use Rattle.laws.specs.Tests.{to_T, true_of, and_both}
