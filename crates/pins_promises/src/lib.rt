@@ -1,2 +1,2 @@
-// Theorems over the pin table's rules: no code, only specs/, where Promises.antt is read first.
+// Theorems over the pin table's rules: no code. What is promised stands in specs/, where Promises.antt is read first, and in proofs/.
 #![tactic(auto)]

@@ -1,32 +1,16 @@
 -- Document 02, [7]: refusal 6 has no input. Document 01 gave it to a negative own share, and looked for it behind 4 and 5. But where a site passes the first three
 -- checks and each of its cells keeps the step limit, no own share is negative. (The limit is [9]'s; what keeps document 01's own keeps it too, NothingLost.antt.)
 -- So a step's number with that look is its number without it, a run is the same run, and neither the step nor the run ever answers 6.
-use Prim.Native.Nat.{ℕ, zero, suc, ◌≤◌}
+use Prim.Native.Nat.{ℕ}
 use Rattle.std.specs.Prelude.{◌≡◌, Bool, true, false, List, ℤ, pos, length, T}
-use Rattle.std.proofs.Math.Path.{refl, sym, ap}
-use Rattle.std.proofs.Common.{subst, ◌∙◌, suc-ne-zero, arith}
 use Rattle.std.specs.Int.Signed.{le_z}
 use Rattle.rules.specs.declared.Card.{Card}
 use Rattle.rules.specs.Grid.{Field}
-use Rattle.rules.specs.Site.{Water, check_also, check, first_refusal, read_ground, read_state}
+use Rattle.rules.specs.Site.{Water, read_ground, read_state}
 use Rattle.rules.specs.Step.{Rule, east_face, north_face, own_share, new_velocity, limit_kept, new_heights_fit, new_velocities_fit, answer, number, step_number_by, next_state}
-use Rattle.rules.specs.Run.{Stepping, peak, site_step, run_from, history}
-use Rattle.rules.specs.Pumps.{check_pumped, check_pumped_with, pumping, pumped_step, reported, PumpedOutcome, pumped_run_after, pumped_run}
-use Rattle.rules.specs.Calls.{step_answer, run_outcome, run_tally, step_answer_by}
-use Rattle.laws.specs.Tests.{true_of, to_T}
-use Rattle.laws.specs.Checks.{at_most_3}
-use Rattle.laws.specs.Facts.{card_facts, sound_depths, check_sound, sound_check}
-use Rattle.laws.specs.Bounded.{east_share, north_share}
-use Rattle.laws.specs.Keeps.{keeps}
-use Rattle.laws.specs.Follows.{Follows, Always, follows}
-use Rattle.laws.specs.Pumped.{sound_pumped}
-use Rattle.laws.specs.PumpChecks.{PumpsPass, checked, checked_of_with}
-use Rattle.laws.specs.Counting.{uncounted, told, counted, counting_follows}
-use Rattle.laws.specs.PumpedSteps.{pumping_follows, pumped-run, pumped_refused}
-use Rattle.laws.specs.Outcomes.{first_same}
-use Rattle.promises.specs.InnerFaces.{EveryInner, every_inner, inner_intro}
-use Rattle.promises.specs.TheCall.{call_runs}
-use Rattle.promises.specs.NeverInTheMiddle.{OfAStep, done, over_the_limit, too_high, too_fast, pumped_numbers, Ends, ends}
+use Rattle.rules.specs.Run.{Stepping, peak}
+use Rattle.rules.specs.Pumps.{pumping}
+use Rattle.promises.specs.InnerFaces.{EveryInner, every_inner}
 
 -- ---- Document 01's test for 6
 

@@ -2,25 +2,13 @@
 -- own limit accepted is accepted, with the same next state; so is every run of such steps. No answer but 4 changed. Document 01 knew no pumps, and so the calls
 -- are those that are lent none. (What is said of the numbers holds by any rule for the new velocities, by document 01's without [2]'s banks too; the next state
 -- asks for no limit.)
-use Rattle.std.specs.Prelude.{ℕ, suc, ◌+◌, ◌*◌, ◌≡◌, refl, Bool, true, false, List, [], ℤ, pos, nat_abs, length, T, leb}
-use Rattle.std.proofs.Common.{sym, ap, ◌∙◌, le_trans, add-le-add, mul-le-mul_right, mul-le-mul_left, arith, leb→le, le→leb}
+use Rattle.std.specs.Prelude.{ℕ, suc, ◌+◌, ◌*◌, ◌≡◌, Bool, List, [], ℤ, nat_abs, leb}
 use Rattle.rules.specs.declared.Card.{Card}
-use Rattle.rules.specs.Grid.{all, all_at}
-use Rattle.rules.specs.Site.{Water, check, first_refusal, read_ground, read_state}
-use Rattle.rules.specs.Step.{Rule, within_limit, new_velocity, limit_kept, new_heights_fit, new_velocities_fit, answer, number, step_number_by, step_number, next_state}
-use Rattle.rules.specs.Run.{Stepping, peak, run_from, site_step, run}
-use Rattle.rules.specs.Pumps.{check_pumped_with, pumped_step}
-use Rattle.rules.specs.Calls.{step_answer, step_next, run_outcome, step_answer_by}
-use Rattle.rules.specs.Starred.{one_row, flat, two, passing, through}
-use Rattle.laws.specs.Grids.{all_at_at, all_at_intro}
-use Rattle.laws.specs.Outward.{forward_size, backward_size}
-use Rattle.laws.specs.PumpChecks.{check_alone, checked_of_with}
-use Rattle.laws.specs.Outcomes.{first_passed, first_same}
-use Rattle.laws.specs.Keeps.{keeps}
-use Rattle.laws.specs.Runs.{begun}
-use Rattle.laws.specs.Follows.{Follows, follows}
-use Rattle.promises.specs.NoPumps.{unpumped, no_pumps_step, no_pumps_check, no_pumps_run}
-use Rattle.promises.specs.TheCall.{call_steps, call_leaves, call_runs}
+use Rattle.rules.specs.Grid.{all_at}
+use Rattle.rules.specs.Site.{Water, read_ground, read_state}
+use Rattle.rules.specs.Step.{Rule, new_velocity, new_heights_fit, new_velocities_fit, number, next_state}
+use Rattle.rules.specs.Run.{Stepping, peak}
+use Rattle.rules.specs.Calls.{step_answer, step_next}
 use Rattle.promises.specs.NoNegativeShare.{shares_fit, answer_with6}
 
 -- ---- Document 01's limit, (18) as it stands: every face of a cell counts, whichever way its velocity points

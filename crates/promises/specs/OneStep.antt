@@ -1,16 +1,10 @@
 -- A run that wants 1 step is the step: its reason is the step's number, and it leaves what the step makes. First over any step, then of the public calls.
-use Rattle.std.specs.Prelude.{ℕ, zero, suc, ◌≡◌, refl, List, ℤ, length}
-use Rattle.std.proofs.Common.{sym, ap, ◌∙◌, subst, ne_of_gt, zero-add, suc-ne-zero}
+use Rattle.std.specs.Prelude.{ℕ, ◌≡◌, List, ℤ}
 use Rattle.rules.specs.declared.Card.{Card}
-use Rattle.rules.specs.Site.{first_refusal, if_done}
-use Rattle.rules.specs.Run.{SteppingOf, OutcomeOf, Stepping, started, accepted, stopped_for, run_from}
-use Rattle.rules.specs.Pumps.{check_pumped_with, added_by, taken_by, pumped_step, PumpedOutcome, pumped_run_after}
-use Rattle.rules.specs.Calls.{step_answer, step_next, run_outcome, run_tally, run_state, step_answer_by}
-use Rattle.laws.specs.Outcomes.{if_done_lem, if_refused, if_same}
-use Rattle.laws.specs.Runs.{further, finished, by_step}
-use Rattle.laws.specs.Counting.{Counted, uncounted, told, counting}
-use Rattle.laws.specs.PumpedSteps.{pumped-run, pumped_refused}
-use Rattle.promises.specs.TheCall.{call_leaves}
+use Rattle.rules.specs.Site.{if_done}
+use Rattle.rules.specs.Run.{OutcomeOf}
+use Rattle.rules.specs.Pumps.{added_by, taken_by, PumpedOutcome}
+use Rattle.rules.specs.Calls.{step_answer, step_next, run_tally, run_state}
 
 -- ---- over any step
 

@@ -1,20 +1,9 @@
 -- A site's run in slices: the cards want m + n, m and n steps. The totals of the two runs are added up.
-use Prim.Native.Nat.{ℕ, zero, suc, ◌+◌, ◌≤◌}
-use Rattle.std.specs.Prelude.{◌≡◌, List, ℤ}
-use Rattle.std.proofs.Math.Path.{refl, ap}
-use Rattle.std.proofs.Common.{sym, ◌∙◌, add-zero, arith}
-use Rattle.rules.specs.declared.Card.{Card}
+use Prim.Native.Nat.{ℕ, zero, suc, ◌+◌}
+use Rattle.std.specs.Prelude.{List, ℤ}
 use Rattle.rules.specs.declared.Tally.{Tally}
-use Rattle.rules.specs.Run.{OutcomeOf, Stepping, run_from}
-use Rattle.rules.specs.Pumps.{check_pumped, added_by, taken_by, pumped_step, progress_of, tally_of, PumpedOutcome, pumped_run}
-use Rattle.laws.specs.Facts.{sound_facts}
-use Rattle.laws.specs.Follows.{Follows, Always, follows, mapped}
-use Rattle.laws.specs.PumpChecks.{checked}
-use Rattle.laws.specs.Counting.{Counted, uncounted, told, counting}
-use Rattle.laws.specs.PumpedSteps.{pumped-run}
-use Rattle.promises.specs.StepsWanted.{wanting, same_pumped_step, same_pumped_check}
-use Rattle.promises.specs.NeverInTheMiddle.{ends}
-use Rattle.promises.specs.Slices.{both_progresses, both_runs, joined_after, joined}
+use Rattle.rules.specs.Pumps.{progress_of, tally_of, PumpedOutcome}
+use Rattle.promises.specs.Slices.{both_progresses}
 
 -- ---- what is promised
 

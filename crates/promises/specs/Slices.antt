@@ -1,16 +1,8 @@
 -- A run of m + n steps is a run of m steps and then one of n from where it ended, with the two joined: a host may run in slices, show how far
 -- it is, and get the same answer to the last micrometre. Here over any step; SiteSlices.antt says it of a site's run.
-use Prim.Native.Nat.{ℕ, zero, suc, ◌+◌, ◌<◌}
-use Rattle.std.specs.Prelude.{◌≡◌, refl, ℤ, T}
-use Rattle.std.proofs.Math.Path.{sym, ap}
-use Rattle.std.proofs.Common.{◌∙◌, add-zero, zero-add, suc-add, not-suc-le-zero, arith}
-use Rattle.std.specs.Int.Signed.{le_z}
+use Prim.Native.Nat.{ℕ, zero, suc, ◌+◌}
 use Rattle.rules.specs.Grid.{max_z}
-use Rattle.rules.specs.Run.{Progress, SteppingOf, OutcomeOf, started, accepted, stopped_for, run_on, run_from}
-use Rattle.laws.specs.Numbers.{le_z_refl}
-use Rattle.laws.specs.Grids.{max_right}
-use Rattle.laws.specs.Maxima.{max_absorbs, max_assoc}
-use Rattle.laws.specs.Runs.{further, finished, gone_on, stopped, by_step}
+use Rattle.rules.specs.Run.{Progress, OutcomeOf}
 
 -- ---- two runs joined, over any step; what a call reports of two is joined in SiteSlices.antt
 

@@ -1,22 +1,11 @@
 -- Of document 02's [1], staff readings: how near a height is to its product, and that a greater value never gives a smaller height.
-use Rattle.std.specs.Prelude.{ℕ, zero, suc, ◌+◌, ◌*◌, ◌≤◌, ◌<◌, ◌≡◌, refl, Bool, true, false, ◌&&◌, cond, T, ℤ, pos, nat_abs}
-use Rattle.std.proofs.Common.{zero-le, sym, subst, lt_irrefl, arith, leb→le, le→leb}
+use Rattle.std.specs.Prelude.{◌+◌, ◌*◌, ◌≤◌, ◌<◌, ◌≡◌, T, ℤ, nat_abs}
 use Rattle.std.specs.Int.Signed.{le_z}
-use lib.Ieee.{Float, nan, inf, fin, binary64, up, down, mul, le, of_bits, of_int, round, units, odd, size, span, climb}
-use Rattle.std.specs.Int.Count.{count_trailing_zeros}
-use Rattle.std.specs.Float.Ieee.Fits.{down_pos}
-use Rattle.std.specs.Float.Ieee.Positive.{num, den, positive}
-use Rattle.rules.specs.declared.Reading.{Reading}
-use Rattle.rules.specs.declared.Reading.TheVariants.{Metres, Feet, Nothing}
+use lib.Ieee.{Float, binary64, le, of_bits}
+use Rattle.std.specs.Float.Ieee.Positive.{num, den}
 use Rattle.rules.specs.declared.Staff.{Staff}
 use Rattle.rules.specs.Site.{height_fits}
-use Rattle.rules.specs.Search.{is_finite, as_float}
-use Rattle.rules.specs.Staff.{product, value_fits, product_fits, nearest_whole, with_height, without_height, measured}
-use Rattle.rules.specs.Calls.{staff_answer, kind_answer}
-use Rattle.laws.specs.Tests.{to_T, true_of, and_both}
-use Rattle.laws.specs.NotBelow.{at_least_0, product_at_least_0}
-use Rattle.laws.specs.Nearest.{half_up, half_up_above, half_up_below, half_up_within}
-use Rattle.promises.specs.StaffOrder.{products_in_order}
+use Rattle.rules.specs.Search.{is_finite}
 
 -- ---- How near. A product is the fraction num / den of whole numbers (the kit's lib.Ieee.Positive)
 

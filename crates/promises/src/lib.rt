@@ -1,2 +1,2 @@
-// Theorems over the rules: no code, only specs/, where Promises.antt is read first.
+// Theorems over the rules: no code. What is promised stands in specs/ and proofs/; proofs/Promises.antt is read first.
 #![tactic(auto)]
