@@ -1,4 +1,4 @@
--- The engine that code is asked for by a yes or no: the textbook's, or the first one.
+-- The rule of an engine, by what its type says of itself: whether it is the textbook's.
 use Rattle.std.specs.Prelude.{Bool, cond, ℤ}
 use Rattle.rules.specs.declared.Face.{Face}
 use Rattle.rules.specs.Step.{Rule, rise, new_velocity_by}

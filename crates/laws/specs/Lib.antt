@@ -3,6 +3,7 @@ pub mod Numbers
 pub mod Products
 pub mod Grids
 pub mod States
+pub mod Refusing
 pub mod Checks
 pub mod Outward
 pub mod Limit

@@ -4,3 +4,4 @@ pub mod Fair
 pub mod Walls
 pub mod Sums
 pub mod Starred
+pub mod Larger

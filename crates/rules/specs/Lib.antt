@@ -2,6 +2,7 @@ pub mod Grid
 pub mod Site
 pub mod Step
 pub mod Textbook
+pub mod Refusals
 pub mod Run
 pub mod Pumps
 pub mod Turn
@@ -14,4 +15,5 @@ pub mod Raster
 pub mod Calls
 pub mod StarredRasters
 pub mod Starred
+pub mod Answers
 pub mod PublicContracts
