@@ -6,21 +6,14 @@ ghost use Rattle.rules.specs.Sheet.{number_in, bytes_of};
 ghost use Rattle.laws.specs.Laid.{laid};
 ghost use Rattle.numbers.specs.Asked.{BytesAt};
 
-// A byte as a number.
-pub fn widened(x: u8) -> u32
-    ensures { result ≡ x }
-{
-    x as u32
-}
-
 // The number in the k bytes from index `at` on.
 pub fn number(s: &[u8], at: usize, k: usize) -> u32
     requires { BytesAt s.now at k }
     ensures { result ≡ number_in k (drop at s.now) }
 {
     let mut n = 0u32;
-    for i in 0..k {
-        n = n * 256 + widened(s[at + i]);
+    for &byte in &s[at..at + k] {
+        n = n * 256 + u32::from(byte);
     }
     n
 }
@@ -31,9 +24,8 @@ pub fn put_number(out: &mut [u8], at: usize, k: usize, n: u32)
     ensures { out.new ≡ laid out.old at (bytes_of k n) }
 {
     let mut rest = n;
-    for i in 0..k {
-        let place = k - 1 - i;
-        out[at + place] = (rest % 256) as u8;
+    for i in (0..k).rev() {
+        out[at + i] = (rest % 256) as u8;
         rest = rest / 256;
     }
 }

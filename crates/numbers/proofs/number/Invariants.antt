@@ -1,9 +1,7 @@
 -- `number`: one turn takes one byte more.
-use mathlib.Core.Path.{◌≡◌}
-use Prim.Native.Nat.{◌^◌, ◌≤◌, ◌<◌}
-use lib.ListN.{drop}
+use Rattle.std.proofs.Common.{◌≡◌, ◌^◌, ◌<◌, drop}
 use Rattle.rules.specs.Sheet.{number_in}
 use Rattle.numbers.proofs.number.Given as goal
 
-abbrev pub invariant-loop-i : goal.invariant-loop-i
-invariant-loop-i l = (l.i ≤ l.k) × (l.n < 256 ^ l.i) × (l.n ≡ number_in l.i (drop l.at l.s))
+abbrev pub invariant-loop-byte : goal.invariant-loop-byte
+invariant-loop-byte l = (l.n < 256 ^ l.byte-index) × (l.n ≡ number_in l.byte-index (drop l.at l.s))
