@@ -6,10 +6,11 @@ ghost use Rattle.rules.specs.Site.{within, card_fits, cells as site_cells, state
 
 use rules::Card;
 
+// The definition's word, with std's method inside; one for each type, since a range is over one.
 fn is_within(low: u32, high: u32, n: u32) -> bool
     ensures { result ≡ within low high n }
 {
-    (low <= n) & (n <= high)
+    (low..=high).contains(&n)
 }
 
 // Whether the card's six numbers lie in their ranges.
@@ -25,6 +26,7 @@ pub fn card_fits(card: Card) -> bool
 }
 
 // How many cells a site has.
+#[tactic(auto, using(laws::specs::Facts::card_facts))]
 pub fn cells(card: Card) -> usize
     requires { card_fits card ≡ true }
     ensures { (result ≡ site_cells card) × (result ≤ 16384) }
@@ -35,6 +37,7 @@ pub fn cells(card: Card) -> usize
 }
 
 // How many words a state has.
+#[tactic(auto, using(laws::specs::Facts::card_facts))]
 pub fn state_length(card: Card) -> usize
     requires { card_fits card ≡ true }
     ensures { (result ≡ state_length card) × (result ≤ 49408) }

@@ -2,22 +2,23 @@
 #![tactic(auto)]
 
 ghost use Rattle.std.specs.Prelude.{◌≡◌};
+ghost use Rattle.rules.specs.Refusals.{outcome_number};
 ghost use Rattle.rules.specs.Play.{play_number};
 
-// The number that an input is refused with, and 0 where it is a sheet to be run.
-pub fn play_number(input: &[u8]) -> u32
-    ensures { result ≡ play_number input.now }
+use rules::Refusal;
+
+// Why an input is refused, and nothing where it is a sheet to be run.
+pub fn play_number(input: &[u8]) -> Result<(), Refusal>
+    ensures { outcome_number result ≡ play_number input.now }
 {
     if 16659 < input.len() {
-        return 8;
+        return Err(Refusal::Room);
     }
-    let own = sheet_reader::own_number(input);
-    if own != 0 {
-        return own;
-    }
+    sheet_reader::own_number(input)?;
     let card = sheet::card_in(input);
-    if (card.columns <= 32) & (card.rows <= 32) {
-        return 0;
+    let small = (card.columns <= 32) & (card.rows <= 32);
+    if !small {
+        return Err(Refusal::Room);
     }
-    8
+    Ok(())
 }

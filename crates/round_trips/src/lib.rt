@@ -10,6 +10,7 @@ pub fn read_then_write(sheet: &[u8], land: &mut [i32], state: &mut [i32], bytes:
     ensures { BytesBack sheet.now land.old state.old bytes.old result land.new state.new bytes.new }
 {
     let heard = water::water_read_sheet(sheet, land, state);
+    // By its number: it is the call that a host makes, and what that answers.
     let number = heard.number;
     if number != 0 {
         return Wrote { number, size: 0 };
@@ -30,6 +31,7 @@ pub fn write_then_read(
     ensures { SiteBack card land.now state.now bytes.old ground_back.old state_back.old result bytes.new ground_back.new state_back.new }
 {
     let wrote = water::water_write_sheet(card, land, state, bytes);
+    // By its number, as above.
     let number = wrote.number;
     if number != 0 {
         let none = sheet_reader::no_card();

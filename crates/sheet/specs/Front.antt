@@ -1,7 +1,7 @@
 -- The number that a sheet's reader gives before it looks at any value, and how it stands to the reader's number.
-use Rattle.std.specs.Prelude.{ℕ, suc, ◌≡◌, Bool, List}
+use Rattle.std.specs.Prelude.{ℕ, ◌≡◌, Bool, List}
 use Rattle.std.proofs.Math.Path.{refl, sym}
-use Rattle.std.proofs.Common.{◌∙◌, suc-ne-zero}
+use Rattle.std.proofs.Common.{◌∙◌}
 use Rattle.std.proofs.Math.Bool.{true, false, cond}
 use Rattle.rules.specs.Site.{card_fits, first_of}
 use Rattle.rules.specs.Sheet.{card_in, head_fits, sheet_lengths_fit, read_number}
@@ -52,5 +52,5 @@ module _ (l : List ℕ) (n m : ℕ) where
       go false b d v h = refl
       go true b d v h = sym (by_front b d v (first_of b d true) refl h)
 
-  pub front_told : (k : ℕ) → suc k ≡ front_number l n m → suc k ≡ read_number l n m
-  front_told k e = e ∙ front_refused (λ z. suc-ne-zero k (e ∙ z))
+  pub front_told : {k : ℕ} → (k ≡ 0 → ⊥) → k ≡ front_number l n m → k ≡ read_number l n m
+  front_told h e = e ∙ front_refused (λ z. h (e ∙ z))

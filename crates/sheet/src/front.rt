@@ -1,10 +1,11 @@
-// What stands before a sheet's words: its head, its card, and the number that they and the lengths give.
+// What stands before a sheet's words: its head, its card, and the refusal that they and the lengths give.
 ghost use Rattle.std.specs.Prelude.{◌≡◌, ◌≤◌, length};
 ghost use Rattle.rules.specs.Sheet.{card_in, head_fits};
+ghost use Rattle.rules.specs.Refusals.{outcome_number};
 ghost use Rattle.sheet.specs.Front.{front_number};
 
 use crate::size;
-use rules::Card;
+use rules::{Card, Refusal};
 
 // Whether the sheet has a whole header, names its own length and is of version 1.
 pub fn head_fits(sheet: &[u8]) -> bool
@@ -39,22 +40,22 @@ pub fn card_in(sheet: &[u8]) -> Card
     }
 }
 
-// The reader's number before it looks at the values: 9, 1 or 2, and 0 where the values decide.
-pub fn front_number(sheet: &[u8], n: usize, m: usize) -> u32
-    ensures { result ≡ front_number sheet.now n m }
+// The reader's refusal before it looks at the values: no sheet, its card, its lengths, and none where the values decide.
+pub fn front_number(sheet: &[u8], n: usize, m: usize) -> Result<(), Refusal>
+    ensures { outcome_number result ≡ front_number sheet.now n m }
 {
     if !head_fits(sheet) {
-        return 9;
+        return Err(Refusal::Sheet);
     }
     let card = card_in(sheet);
     if !card::card_fits(card) {
-        return 1;
+        return Err(Refusal::Card);
     }
     let fits = (sheet.len() == size::sheet_size(card))
         & (n == card::cells(card))
         & (m == card::state_length(card));
-    if fits {
-        return 0;
+    if !fits {
+        return Err(Refusal::Length);
     }
-    2
+    Ok(())
 }

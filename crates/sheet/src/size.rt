@@ -6,6 +6,7 @@ ghost use Rattle.rules.specs.Sheet.{sheet_size};
 use rules::Card;
 
 // How many bytes the sheet of a card has.
+#[tactic(auto, using(laws::specs::Facts::card_facts))]
 pub fn sheet_size(card: Card) -> usize
     requires { card_fits card ≡ true }
     ensures { (result ≡ sheet_size card) × (result ≤ 263187) }

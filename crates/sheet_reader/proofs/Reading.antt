@@ -1,20 +1,25 @@
 -- The reader's numbers and outcomes, as its functions come to them.
 use Prim.Native.Nat.{ℕ, ◌+◌, ◌*◌}
-use mathlib.Core.Path.{◌≡◌, sym, ap, ap₂, ◌∙◌, subst}
+use mathlib.Core.Path.{◌≡◌, sym, ap₂, ◌∙◌, subst}
 use mathlib.Core.Bool.{true, false}
 use mathlib.Core.List.{List}
 use native.Mathlib.Omega.{arith}
 use lib.IntN.{ℤ}
 use lib.ListN.{length, drop}
+use Rattle.std.specs.Prelude.{Ok, Err}
 use Rattle.rules.specs.declared.Card.{Card}
-use Rattle.rules.specs.Site.{cells, state_length, card_fits, first_of, if_done}
-use Rattle.rules.specs.Sheet.{words_in, sheet_size, card_in, ground_in, state_in, read_number, no_card}
+use Rattle.rules.specs.declared.Heard.{Heard}
+use Rattle.rules.specs.declared.refusals.Refusal.{Refusal}
+use Rattle.rules.specs.Refusals.{refusal_number}
+use Rattle.rules.specs.Answers.{heard_of}
+use Rattle.rules.specs.Site.{cells, state_length, first_of}
+use Rattle.rules.specs.Sheet.{words_in, card_in, ground_in, state_in, read_number, no_card}
 use Rattle.rules.specs.Calls.{read_answer, read_ground_list, read_state_list}
 use Rattle.rules.specs.PublicContracts.{ReadContract}
-use Rattle.laws.specs.Outcomes.{if_refused}
+use Rattle.laws.specs.Outcomes.{if_done_lem, if_refused}
+use Rattle.laws.specs.Refusing.{number-ne0}
 use Rattle.laws.specs.Sheets.{Sizes, size_words, size_facts, ground_there, state_there, read_number_is}
 use Rattle.sheet.specs.Front.{Front}
-use Rattle.sheet_reader.specs.Lent.{Shaped}
 use Rattle.sheet_reader.specs.Values.{sheet_values_fit}
 
 -- ---- where the values decide
@@ -30,9 +35,6 @@ module _ (l : List ℕ) (n m : ℕ) (f : Front l n m) where
 
   sizes : Sizes l n m
   sizes = size_facts l n m f.lengths
-
-  pub front_shaped : (c : Card) → c ≡ card_in l → Shaped c l
-  front_shaped c e = record { own = e; card = ap card_fits e ∙ f.card; sized = sizes.sized ∙ ap sheet_size (sym e) }
 
   -- the lengths are those that the header asks for
   pub front_own : Front l (cells (card_in l)) (state_length (card_in l))
@@ -53,15 +55,24 @@ module _ (l : List ℕ) (n m : ℕ) (f : Front l n m) where
 
 -- ---- the outcome
 
-module _ (l : List ℕ) (land state : List ℤ) (r : ℕ) (e : r ≡ read_number l (length land) (length state)) where
-  pub answered : (c : Card) (g s : List ℤ) → c ≡ if_done r (card_in l) no_card → g ≡ if_done r (ground_in l) land → s ≡ if_done r (state_in l) state
-      → ReadContract l land state (record { number = r; card = c }) g s
-  unfolding read_answer read_ground_list read_state_list
-  answered c g s p q w = record {
-    answer = λ i. record { number = e i; card = (p ∙ ap (λ (k : ℕ). if_done k (card_in l) no_card) e) i };
-    ground_exit = q ∙ ap (λ (k : ℕ). if_done k (ground_in l) land) e;
-    state_exit = w ∙ ap (λ (k : ℕ). if_done k (state_in l) state) e;
-  }
+module _ (l : List ℕ) (land state : List ℤ) where
+  abbrev read : ℕ
+  read = read_number l (length land) (length state)
 
-  pub refused : (c : Card) → c ≡ no_card → (r ≡ 0 → ⊥) → ReadContract l land state (record { number = r; card = c }) land state
-  refused c p h = answered c land state (p ∙ sym (if_refused r (card_in l) no_card h)) (sym (if_refused r (ground_in l) land h)) (sym (if_refused r (state_in l) state h))
+  pub refused : (r : Refusal) {heard : Heard} → heard ≡ heard_of (Err r) → refusal_number r ≡ read → ReadContract l land state heard land state
+  unfolding read_answer read_ground_list read_state_list
+  refused r same e =
+      let k : read ≡ 0 → ⊥ = λ z. number-ne0 r (e ∙ z) in
+      record {
+        answer = same ∙ (λ i. record { number = e i; card = sym (if_refused read (card_in l) no_card k) i });
+        ground_exit = sym (if_refused read (ground_in l) land k);
+        state_exit = sym (if_refused read (state_in l) state k);
+      }
+
+  pub done : (c : Card) (g s : List ℤ) → 0 ≡ read → c ≡ card_in l → g ≡ ground_in l → s ≡ state_in l → ReadContract l land state (heard_of (Ok c)) g s
+  unfolding read_answer read_ground_list read_state_list
+  done c g s e p q w = record {
+    answer = λ i. record { number = e i; card = (p ∙ sym (if_done_lem read (card_in l) no_card (sym e))) i };
+    ground_exit = q ∙ sym (if_done_lem read (ground_in l) land (sym e));
+    state_exit = w ∙ sym (if_done_lem read (state_in l) state (sym e));
+  }

@@ -4,6 +4,7 @@
 mod look;
 mod own;
 mod reader;
+mod row;
 
 pub use own::own_number;
 pub use reader::{no_card, read_sheet};

@@ -1,14 +1,14 @@
-// The reader: the number first, and then what is left with it.
-ghost use Rattle.std.specs.Prelude.{◌≡◌, ◌+◌, ◌*◌, ◌≤◌, length, drop};
-ghost use Rattle.rules.specs.Site.{if_done};
-ghost use Rattle.rules.specs.Sheet.{words_in, card_in, no_card};
+// The reader: what refuses a sheet first, and then what is left of one that passes.
+ghost use Rattle.std.specs.Prelude.{◌≡◌, length};
+ghost use Rattle.rules.specs.Answers.{heard_of};
+ghost use Rattle.rules.specs.Sheet.{no_card};
 ghost use Rattle.rules.specs.PublicContracts.{ReadContract};
 ghost use Rattle.sheet.specs.Front.{Front};
 
 use crate::look;
-use rules::{Card, Heard};
+use rules::{Card, Refusal};
 
-// The card of a sheet that is refused.
+// The card beside a refusal, for a caller that makes a Heard of its own.
 pub fn no_card() -> Card
     ensures { result ≡ no_card }
 {
@@ -22,51 +22,21 @@ pub fn no_card() -> Card
     }
 }
 
-// The card that is handed back with a number.
-fn card_with(number: u32, sheet: &[u8]) -> Card
-    requires { 19 ≤ length sheet.now }
-    ensures { result ≡ if_done number (card_in sheet.now) no_card }
-{
-    if number != 0 {
-        return no_card();
-    }
-    sheet::card_in(sheet)
-}
-
-// What a reading that ended with this number leaves in a lent list: the words that stand from index `at` on, or the list as it was.
-fn fill(sheet: &[u8], at: usize, list: &mut [i32], number: u32)
-    requires { at + 4 * length list.old ≤ length sheet.now }
-    ensures { list.new ≡ if_done number (words_in (length list.old) (drop at sheet.now)) list.old }
-{
-    if number == 0 {
-        words::get_words(sheet, at, list);
-    }
-}
-
-// The site of a sheet whose values decide.
-fn read_values(sheet: &[u8], land: &mut [i32], state: &mut [i32]) -> Heard
+// The site of a sheet whose values decide. The lists are filled only once they have passed.
+fn read_values(sheet: &[u8], land: &mut [i32], state: &mut [i32]) -> Result<Card, Refusal>
     requires { Front sheet.now (length land.old) (length state.old) }
-    ensures { ReadContract sheet.now land.old state.old result land.new state.new }
+    ensures { ReadContract sheet.now land.old state.old (heard_of result) land.new state.new }
 {
-    let n = land.len();
-    let number = look::values_number(sheet);
-    fill(sheet, 19, land, number);
-    fill(sheet, 19 + 4 * n, state, number);
-    let card = card_with(number, sheet);
-    Heard { number, card }
+    look::values_number(sheet)?;
+    words::get_words(sheet, 19, land);
+    words::get_words(sheet, 19 + 4 * land.len(), state);
+    Ok(sheet::card_in(sheet))
 }
 
 // The site of a sheet.
-pub fn read_sheet(sheet: &[u8], land: &mut [i32], state: &mut [i32]) -> Heard
-    ensures { ReadContract sheet.now land.old state.old result land.new state.new }
+pub fn read_sheet(sheet: &[u8], land: &mut [i32], state: &mut [i32]) -> Result<Card, Refusal>
+    ensures { ReadContract sheet.now land.old state.old (heard_of result) land.new state.new }
 {
-    let early = sheet::front_number(sheet, land.len(), state.len());
-    if early != 0 {
-        let card = no_card();
-        return Heard {
-            number: early,
-            card,
-        };
-    }
+    sheet::front_number(sheet, land.len(), state.len())?;
     read_values(sheet, land, state)
 }

@@ -9,12 +9,18 @@ use lib.IntN.{ℤ}
 use lib.ListN.{length, drop, length-append}
 use lib.Dec.{leb}
 use borrow.Author.Tests.{le-leb, lt-leb, leb-true}
+use Rattle.std.specs.Prelude.{Ok, Err}
 use Rattle.rules.specs.declared.Card.{Card}
-use Rattle.rules.specs.Site.{card_fits, lengths_fit, values_fit, read_ground, read_state, first_of, check_also, check}
+use Rattle.rules.specs.declared.Wrote.{Wrote}
+use Rattle.rules.specs.declared.refusals.Refusal.{Refusal}
+use Rattle.rules.specs.Refusals.{refusal_number}
+use Rattle.rules.specs.Answers.{wrote_of}
+use Rattle.rules.specs.Site.{card_fits, check}
 use Rattle.rules.specs.Sheet.{bytes_of, words_bytes, sheet_size, header, sheet_of}
 use Rattle.rules.specs.Calls.{write_number, write_answer, write_bytes}
 use Rattle.rules.specs.PublicContracts.{WriteContract}
 use Rattle.laws.specs.Outcomes.{first_refused, first_passed, both_passed, if_done_lem, if_refused}
+use Rattle.laws.specs.Refusing.{number-ne0}
 use Rattle.laws.specs.Facts.{length_facts, check_sound}
 use Rattle.laws.specs.Laid.{laid, laid_laid, laid_front}
 use Rattle.laws.specs.Words.{length_words}
@@ -22,28 +28,19 @@ use Rattle.laws.specs.Sheets.{size_words, length-header, length_sheet}
 
 -- ---- the numbers
 
-module _ (c : Card) (g s : List ℤ) (room r : ℕ) (e : r ≡ check c g s) where
-  pub write_checked : (r ≡ 0 → ⊥) → r ≡ write_number c g s room
+module _ (c : Card) (g s : List ℤ) (room : ℕ) where
+  pub write_checked : (r : Refusal) → refusal_number r ≡ check c g s → refusal_number r ≡ write_number c g s room
   unfolding write_number
-  write_checked h = e ∙ sym (first_refused (check c g s) _ (λ z. h (e ∙ z)))
+  write_checked r e = e ∙ sym (first_refused (check c g s) _ (λ z. number-ne0 r (e ∙ z)))
 
-  module _ (z : r ≡ 0) where
+  module _ (z : 0 ≡ check c g s) where
     pub write_8 : room < sheet_size c → 8 ≡ write_number c g s room
     unfolding write_number
-    write_8 h = sym (first_passed (check c g s) _ (sym e ∙ z) ∙ ap (λ (b : Bool). cond b 0 8) (lt-leb (sheet_size c) room h))
+    write_8 h = sym (first_passed (check c g s) _ (sym z) ∙ ap (λ (b : Bool). cond b 0 8) (lt-leb (sheet_size c) room h))
 
     pub write_0 : sheet_size c ≤ room → 0 ≡ write_number c g s room
     unfolding write_number
-    write_0 h = sym (first_passed (check c g s) _ (sym e ∙ z) ∙ ap (λ (b : Bool). cond b 0 8) (le-leb (sheet_size c) room h))
-
--- where the check's number is not 1, the card fits
-pub card_passed : (c : Card) (g s : List ℤ) (r : ℕ) → r ≡ check c g s → (r ≡ 1 → ⊥) → card_fits c ≡ true
-unfolding check check_also first_of
-card_passed c g s r e h = go (card_fits c) (λ z. h (e ∙ z))
-  where
-    go : (b : Bool) → (first_of b (lengths_fit c g s) (values_fit c (read_ground c g) (read_state c s)) ≡ 1 → ⊥) → b ≡ true
-    go true h = refl
-    go false h = absurd (h refl)
+    write_0 h = sym (first_passed (check c g s) _ (sym z) ∙ ap (λ (b : Bool). cond b 0 8) (le-leb (sheet_size c) room h))
 
 -- a site that is written, and has room
 pub record Clean (c : Card) (g s : List ℤ) (room : ℕ) : Type 0 where
@@ -109,24 +106,22 @@ sheet_laid c g s o₀ o₁ o₂ o₃ k p₁ p₂ p₃ =
 
 -- ---- the outcomes
 
-module _ (c : Card) (g s : List ℤ) (bytes : List ℕ) (r : ℕ) (e : r ≡ write_number c g s (length bytes)) where
-  abbrev number : ℕ
-  number = write_number c g s (length bytes)
+module _ (c : Card) (g s : List ℤ) (bytes : List ℕ) where
+  abbrev told : ℕ
+  told = write_number c g s (length bytes)
 
-  pub write_refused : (r ≡ 0 → ⊥) → WriteContract c g s bytes (record { number = r; size = 0 }) bytes
+  pub write_refused : (r : Refusal) {wrote : Wrote} → wrote ≡ wrote_of (Err r) → refusal_number r ≡ told → WriteContract c g s bytes wrote bytes
   unfolding write_answer write_bytes
-  write_refused h =
-      let k : number ≡ 0 → ⊥ = λ z. h (e ∙ z) in
+  write_refused r same e =
+      let k : told ≡ 0 → ⊥ = λ z. number-ne0 r (e ∙ z) in
       record {
-        answer = λ i. record { number = e i; size = sym (if_refused number (sheet_size c) 0 k) i };
-        bytes_exit = sym (if_refused number (sheet_of c g s ++ drop (sheet_size c) bytes) bytes k);
+        answer = same ∙ (λ i. record { number = e i; size = sym (if_refused told (sheet_size c) 0 k) i });
+        bytes_exit = sym (if_refused told (sheet_of c g s ++ drop (sheet_size c) bytes) bytes k);
       }
 
-  pub write_done : (n : ℕ) (o : List ℕ) → n ≡ sheet_size c → o ≡ sheet_of c g s ++ drop (sheet_size c) bytes → r ≡ 0 → WriteContract c g s bytes (record { number = 0; size = n }) o
+  pub write_done : (n : ℕ) (o : List ℕ) → n ≡ sheet_size c → o ≡ sheet_of c g s ++ drop (sheet_size c) bytes → 0 ≡ told → WriteContract c g s bytes (wrote_of (Ok n)) o
   unfolding write_answer write_bytes
-  write_done n o p q z =
-      let k : number ≡ 0 = sym e ∙ z in
-      record {
-        answer = λ i. record { number = sym k i; size = (p ∙ sym (if_done_lem number (sheet_size c) 0 k)) i };
-        bytes_exit = q ∙ sym (if_done_lem number (sheet_of c g s ++ drop (sheet_size c) bytes) bytes k);
-      }
+  write_done n o p q e = record {
+    answer = λ i. record { number = e i; size = (p ∙ sym (if_done_lem told (sheet_size c) 0 (sym e))) i };
+    bytes_exit = q ∙ sym (if_done_lem told (sheet_of c g s ++ drop (sheet_size c) bytes) bytes (sym e));
+  }

@@ -2,26 +2,25 @@
 #![tactic(auto)]
 
 ghost use Rattle.std.specs.Prelude.{◌≡◌};
+ghost use Rattle.rules.specs.Refusals.{outcome_number};
+ghost use Rattle.rules.specs.Answers.{wrote_of};
 ghost use Rattle.rules.specs.Sheet.{header};
 ghost use Rattle.rules.specs.Calls.{write_number};
 ghost use Rattle.rules.specs.PublicContracts.{WriteContract};
 ghost use Rattle.laws.specs.Laid.{laid};
 ghost use Rattle.sheet_writer.specs.Headed.{Headed};
 
-use rules::{Card, Wrote};
+use rules::{Card, Refusal};
 
-// The writer's number for a room of so many bytes.
-fn write_number(card: Card, land: &[i32], state: &[i32], room: usize) -> u32
-    ensures { result ≡ write_number card land.now state.now room }
+// The writer's refusal for a room of so many bytes.
+fn write_number(card: Card, land: &[i32], state: &[i32], room: usize) -> Result<(), Refusal>
+    ensures { outcome_number result ≡ write_number card land.now state.now room }
 {
-    let refusal = site::check(card, land, state);
-    if refusal != 0 {
-        return refusal;
-    }
+    site::check(card, land, state)?;
     if room < sheet::sheet_size(card) {
-        return 8;
+        return Err(Refusal::Room);
     }
-    0
+    Ok(())
 }
 
 // Lays the header of a card at the front.
@@ -40,17 +39,18 @@ fn put_header(card: Card, bytes: &mut [u8])
     numbers::put_number(bytes, 17, 2, card.steps);
 }
 
-// The sheet of a site.
-pub fn write_sheet(card: Card, land: &[i32], state: &[i32], bytes: &mut [u8]) -> Wrote
-    ensures { WriteContract card land.now state.now bytes.old result bytes.new }
+// The sheet of a site, and how many bytes it has.
+pub fn write_sheet(
+    card: Card,
+    land: &[i32],
+    state: &[i32],
+    bytes: &mut [u8],
+) -> Result<u32, Refusal>
+    ensures { WriteContract card land.now state.now bytes.old (wrote_of result) bytes.new }
 {
-    let number = write_number(card, land, state, bytes.len());
-    if number != 0 {
-        return Wrote { number, size: 0 };
-    }
+    write_number(card, land, state, bytes.len())?;
     put_header(card, bytes);
     words::put_words(bytes, 19, land);
     words::put_words(bytes, 19 + 4 * land.len(), state);
-    let size = sheet::sheet_size(card) as u32;
-    Wrote { number: 0, size }
+    Ok(sheet::sheet_size(card) as u32)
 }

@@ -1,24 +1,12 @@
--- `state_length`: its three products and their sum fit.
+-- `state_length`: its products and their sum, counted as the definition counts them.
 use native.Mathlib.Numerals.{add-one}
 use native.Mathlib.Omega.{arith}
 use Rattle.rules.specs.Site.{state_length}
 use Rattle.laws.specs.Facts.{card_facts}
 use Rattle.card.proofs.state_length.Goals as goal
 
-pub overflow_mul-result : goal.overflow_mul-result
-overflow_mul-result c = let b = card_facts _ c.requires in omega arith
-
-pub overflow_mul-result-2 : goal.overflow_mul-result-2
-overflow_mul-result-2 c = let b = card_facts _ c.requires in omega arith
-
-pub overflow_mul-result-3 : goal.overflow_mul-result-3
-overflow_mul-result-3 c = let b = card_facts _ c.requires in omega arith
-
 pub overflow_add-result-3 : goal.overflow_add-result-3
 overflow_add-result-3 c = let b = card_facts _ c.requires in omega arith
-
-pub overflow_add-result-4 : goal.overflow_add-result-4
-overflow_add-result-4 c = let b = card_facts _ c.requires in omega arith
 
 pub returns : goal.returns
 unfolding state_length

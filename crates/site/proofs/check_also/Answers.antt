@@ -1,16 +1,21 @@
--- `check_also`: the front's number, and then the values'.
-use mathlib.Core.Path.{sym, ◌∙◌}
+-- `check_also`: the front's refusal, and then the values'.
+use mathlib.Core.Path.{◌≡◌, sym, ◌∙◌}
+use Rattle.std.proofs.Common.{rules}
 use Rattle.rules.specs.Site.{check_also}
+use Rattle.rules.specs.Refusals.{refusal_number, outcome_number}
 use Rattle.laws.specs.Checks.{by_front}
+use Rattle.laws.specs.Refusing.{number-ne0}
 use Rattle.site.specs.Front.{front_also, front_sized, front_passed}
 use Rattle.site.proofs.check_also.Goals as goal
 
-pub returns-then-number-ne0 : goal.returns-then-number-ne0
+pub returns-in_err-front : goal.returns-in_err-front
 unfolding check_also front_also
-returns-then-number-ne0 c = sym (by_front _ _ _ c.front-number.result c.front-number.ensures c.if-number-ne0.true)
+returns-in_err-front c =
+    let same : outcome_number c.from_residual.result ≡ refusal_number c.in_err-front.field-0.0 = search rules in
+    same ∙ sym (by_front _ _ _ _ c.in_err-front.ensures (number-ne0 c.in_err-front.field-0.0))
 
 pub values_number-requires : goal.values_number-requires
-values_number-requires c = front_sized _ _ _ _ _ (sym c.front-number.ensures ∙ c.if-number-ne0.false)
+values_number-requires c = front_sized _ _ _ _ _ (sym c.in_ok-front.ensures)
 
 pub returns : goal.returns
-returns c = c.values_number.ensures ∙ front_passed _ _ _ _ _ (sym c.front-number.ensures ∙ c.if-number-ne0.false) _
+returns c = c.values_number.ensures ∙ front_passed _ _ _ _ _ (sym c.in_ok-front.ensures) _

@@ -1,21 +1,25 @@
-use mathlib.Core.Path.{◌∙◌}
-use Prim.Native.Nat.{◌+◌}
+-- `all_between`: the fold over the places is the test at every place.
+use mathlib.Core.Path.{◌≡◌, refl, ◌∙◌}
+use mathlib.Core.Bool.{Bool, true, ◌&&◌}
+use Prim.Native.Nat.{ℕ, ◌+◌}
+use native.Mathlib.Omega.{arith}
 use lib.IntN.{pos}
 use lib.ListN.{get_or}
-use mir.Syntax.{w32}
-use mir.Facts.{to_z-of_z}
-use Rattle.laws.specs.Gather.{gather_none, gather_more, gather_all}
+use Rattle.std.specs.List.{fold, range_with_len}
+use Rattle.std.proofs.Common.{rules}
+use Rattle.std.proofs.iter.Yields.{nat_range_steps}
+use Rattle.std.proofs.lemmas.Fn.{fold_over}
+use Rattle.std.proofs.lemmas.Iterator.{YieldsList-from_range}
+use Rattle.laws.specs.Between.{between}
+use Rattle.walls.specs.Folds.{folded_more, folded_all}
 use Rattle.values.proofs.all_between.Goals as goal
 
-pub loop-k-init : goal.loop-k-init
-loop-k-init c = gather_none
-
-pub loop-k-preserved : goal.loop-k-preserved
-loop-k-preserved c =
-    let word = to_z-of_z {w = w32} {z = get_or c.args.s.now (c.args.start + c.loop-k.k) (pos 0)} (record { sfits = c.is_between-arg-1.given }) in
-    gather_more c.loop-k.invariant c.loop-k-test.true (c.is_between-ok.ensures ∙ simp word)
-
 pub returns : goal.returns
-returns c =
-    let f = c.ranges in
-    simp (to_z-of_z f.low, to_z-of_z f.high) at (gather_all c.loop-k.invariant c.loop-k-test.false)
+returns g c =
+    let a = c.args in
+    let p : ℕ → Bool = λ k. between a.low a.high (get_or (g.W.Words.words a.row) (a.start + k) (pos 0)) in
+    let every = (YieldsList-from_range 0 a.n a.n refl (omega arith)).runs in
+    fold_over nat_range_steps (λ x. x) _ (λ ys b. b ≡ fold (λ b k. b && p k) true ys) _
+    (λ ys b x r f' j k. (folded_more p a.n ys x j (search rules), search rules))
+    (record { start = 0; end = a.n }) (range_with_len 0 a.n) true c.fold.result every refl c.fold.ensures.ran
+    ∙ folded_all p a.n

@@ -8,4 +8,6 @@ use Rattle.laws.specs.Gather.{Gathered}
 use Rattle.walls.proofs.pairs_still.Given as goal
 
 abbrev pub invariant-loop-k : goal.invariant-loop-k
-invariant-loop-k l = Gathered l.n (λ k. is_zero (get_or l.s (l.first + k * l.stride) (pos 0)) && is_zero (get_or l.s (l.second + k * l.stride) (pos 0))) l.ok l.k
+invariant-loop-k g l =
+    let row = g.W.Words.words l.row in
+    Gathered l.n (λ k. is_zero (get_or row (l.first + k * l.stride) (pos 0)) && is_zero (get_or row (l.second + k * l.stride) (pos 0))) l.ok l.k

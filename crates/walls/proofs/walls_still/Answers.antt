@@ -7,32 +7,17 @@ use Rattle.laws.specs.Strides.{strides, state_words, a_row}
 use Rattle.laws.specs.Values.{walls_flat}
 use Rattle.walls.proofs.walls_still.Goals as goal
 
-pub overflow_mul-cells : goal.overflow_mul-cells
-overflow_mul-cells c = let b = card_facts _ c.requires.card in omega arith
-
-pub overflow_mul-north : goal.overflow_mul-north
-overflow_mul-north c = let b = card_facts _ c.requires.card in omega arith
-
-pub overflow_add-north-2 : goal.overflow_add-north-2
-overflow_add-north-2 c = let b = card_facts _ c.requires.card in omega arith
-
-pub overflow_add-cells : goal.overflow_add-cells
-overflow_add-cells c = let b = card_facts _ c.requires.card in omega arith
-
 pub pairs_still-sides-requires : goal.pairs_still-sides-requires
-pairs_still-sides-requires c =
+pairs_still-sides-requires g c =
     let l = c.requires.words ∙ state_words c.args.card in
     let row = a_row c.args.card c.requires.card (c.args.card.columns + 1) in
-    strides (omega arith) (omega arith)
-
-pub overflow_add-north-3 : goal.overflow_add-north-3
-overflow_add-north-3 c = let b = card_facts _ c.requires.card in omega arith
+    record { within = strides (omega arith) (omega arith); short = omega (arith, card_facts _ c.requires.card) }
 
 pub pairs_still-ends-requires : goal.pairs_still-ends-requires
-pairs_still-ends-requires c =
+pairs_still-ends-requires g c =
     let l = c.requires.words ∙ state_words c.args.card in
     let row = a_row c.args.card c.requires.card c.args.card.columns in
-    strides (omega arith) (omega arith)
+    record { within = strides (omega arith) (omega arith); short = omega (arith, card_facts _ c.requires.card) }
 
 pub returns : goal.returns
-returns c = cc (walls_flat _ c.args.state.now, c.pairs_still-sides.ensures, c.pairs_still-ends.ensures)
+returns g c = cc (walls_flat _ (g.W.Words.words c.args.state), c.pairs_still-sides.ensures, c.pairs_still-ends.ensures)
