@@ -20,26 +20,23 @@ fn say_part(rt: &impl Print, part: &[u8]) -> io::Result<()> {
     say(rt, b"] in [")
 }
 
-fn say_depth(rt: &impl Print, height: i32, scratch: &mut [u8]) -> io::Result<()> {
-    let part = water::depth_text(height, scratch);
-    say_part(rt, part)?;
-    say(rt, scratch)?;
-    say(rt, b"]")
-}
-
-fn say_spoilt(rt: &impl Print, height: i32, scratch: &mut [u8]) -> io::Result<()> {
-    let part = spoilt::depth_text(height, scratch);
+// What becomes of a scratch: the part that `text` hands back, and then the whole.
+fn say_text<Text: Fn(i32, &mut [u8]) -> &mut [u8]>(
+    rt: &impl Print,
+    height: i32,
+    scratch: &mut [u8],
+    text: Text,
+) -> io::Result<()>
+    requires { Text.IsAlwaysCallable text }
+{
+    let part = text(height, scratch);
     say_part(rt, part)?;
     say(rt, scratch)?;
     say(rt, b"]")
 }
 
 // A scratch of ten bytes that no text has, each another.
-fn letters() -> [u8; 10]
-    ensures { length result ≡ 10 }
-{
-    [65, 66, 67, 68, 69, 70, 71, 72, 73, 74]
-}
+const LETTERS: [u8; 10] = *b"ABCDEFGHIJ";
 
 // One line: a height, and what becomes of the first so many letters.
 fn say_line(rt: &impl Print, name: &[u8], height: i32, bytes: usize) -> io::Result<()>
@@ -47,20 +44,18 @@ fn say_line(rt: &impl Print, name: &[u8], height: i32, bytes: usize) -> io::Resu
 {
     say(rt, name)?;
     say(rt, b": ")?;
-    let mut scratch = letters();
-    say_depth(rt, height, &mut scratch[..bytes])?;
+    let mut scratch = LETTERS;
+    say_text(rt, height, &mut scratch[..bytes], water::depth_text)?;
     say(rt, b"; spoilt ")?;
-    let mut other = letters();
-    say_spoilt(rt, height, &mut other[..bytes])?;
+    let mut other = LETTERS;
+    say_text(rt, height, &mut other[..bytes], spoilt::depth_text)?;
     say(rt, b"\n")
 }
 
 // A scratch of each length: none, too short, just right, and longer.
 fn say_lines(rt: &impl Print, name: &[u8], height: i32) -> io::Result<()> {
-    let mut bytes = 0;
-    while bytes <= 10 {
+    for bytes in 0..=10 {
         say_line(rt, name, height, bytes)?;
-        bytes += 1;
     }
     Ok(())
 }

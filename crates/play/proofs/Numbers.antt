@@ -7,9 +7,10 @@ use native.Mathlib.Nat.{mul-le-mul}
 use native.Mathlib.Omega.{arith}
 use lib.Dec.{leb, leb→le}
 use lib.IntN.{ℤ}
-use lib.ListN.{length}
+use lib.ListN.{length, take}
+use lib.Seq.{length-take-le}
 use Rattle.rules.specs.declared.Card.{Card}
-use Rattle.rules.specs.Site.{cells, state_length, check}
+use Rattle.rules.specs.Site.{cells, state_length, card_fits, check}
 use Rattle.rules.specs.Step.{new_velocity}
 use Rattle.rules.specs.Run.{Stepping, run, run_after}
 use Rattle.rules.specs.Pumps.{check_pumped_with, reported, pumped_run_after}
@@ -23,6 +24,10 @@ use Rattle.laws.specs.Outcomes.{both_passed, if_done_lem, if_refused}
 use Rattle.laws.specs.Sheets.{Read, passed, read_facts, length_state_in}
 use Rattle.play_number.proofs.Numbers.{small}
 use Rattle.play.specs.Lent.{progressed}
+
+-- a list that is cut to a length
+pub cut_to : {A : Type 0} (n : ℕ) (l : List A) → n ≤ length l → n ≡ length (take n l)
+cut_to n l h = sym (length-take-le n l h)
 
 module _ (l : List ℕ) where
   -- ---- what is printed by it
@@ -63,6 +68,12 @@ module _ (l : List ℕ) where
         let wide : suc (card_in l).columns ≤ 33 = let n = narrow in omega arith in
         let tall : suc (card_in l).rows ≤ 33 = let s = short in omega arith in
         omega (arith, cells_few, mul-le-mul short wide, mul-le-mul tall narrow)
+
+    pub head_long : 19 ≤ length l
+    head_long = sheet_read.head.long
+
+    pub card_fits_lem : card_fits (card_in l) ≡ true
+    card_fits_lem = sheet_read.card
 
     -- ---- its lists, read
 

@@ -64,14 +64,11 @@ appended_none {at} {old} = record { stop = omega arith; bytes = sym (laid_none o
 pub appended_length : {a : List ℕ} {at end : ℕ} {old new : List ℕ} → Appended a at end old new → end ≤ length old → length new ≡ length old
 appended_length {a} {at} {end} {old} p h = ap length p.bytes ∙ length_laid old at a (let e = p.stop in omega arith)
 
--- ---- a text at the front: its part, and that it lies within the list
+-- ---- a text at the front: its part, and how long that is
 
 pub front_part : {t : List ℕ} {end : ℕ} {old new : List ℕ} → Appended t 0 end old new → take end new ≡ t
 front_part {t} {end} {old} {new} p =
     ap (take end) (p.bytes ∙ laid_front old t) ∙ take_at t (drop (length t) old) end (let e = p.stop in omega arith)
-
-pub front_within : {t : List ℕ} {end : ℕ} {old new : List ℕ} → Appended t 0 end old new → end ≤ length new
-front_within {t} {end} {old} {new} p = omega (arith, p.stop, ap length (p.bytes ∙ laid_front old t), length-append t (drop (length t) old))
 
 pub front_length : {t : List ℕ} {end : ℕ} {old new : List ℕ} → Appended t 0 end old new → end ≡ length (take end new)
 front_length {t} {end} {old} {new} p = let e = p.stop in omega (arith, ap length (front_part p))

@@ -1,3 +1,3 @@
 pub mod Laws
+pub mod Pages
 pub mod Lengths
-pub mod Sizes

@@ -1,13 +1,13 @@
 -- Laws of a text that was put.
-use mathlib.Core.Path.{◌≡◌, sym, ap, ◌∙◌, subst}
+use mathlib.Core.Path.{◌≡◌, sym, ap, ap₂, ◌∙◌, subst}
 use Prim.Native.Nat.{ℕ, suc, ◌+◌, ◌^◌, ◌<◌, ◌≤◌, zero-le}
-use native.Mathlib.Numerals.{add-one}
 use native.Mathlib.Omega.{arith}
-use mathlib.Core.List.{List, [], ◌∷◌, ◌++◌, append_assoc}
-use lib.ListN.{length, get_or, set, take, drop, length-append}
-use lib.Seq.{take-length, take_at, drop-cons, set_at}
+use mathlib.Core.List.{List, [], ◌++◌, append_assoc}
+use lib.ListN.{length, take, drop, length-append}
+use lib.Seq.{take-length, take_at, drop_at, drop-drop}
+use borrow.Rule.Slice.PartMut.{put_mid}
 use borrow.Author.Tests.{le-leb, lt-leb}
-use Rattle.rules.specs.Text.{decimal, fitted, cm}
+use Rattle.rules.specs.Text.{decimal, fitted}
 use Rattle.laws.specs.Decimals.{length-decimal}
 use Rattle.put.specs.Put.{Put}
 
@@ -35,36 +35,6 @@ handed_all t k n h e = rw (e, fits_in t k h) (take-length t)
 pub put_handed : (t old part : List ℕ) (r : ℕ) → part ≡ fitted t (length old) → r ≡ length part → Put t r old (part ++ drop r old)
 put_handed t old part r h e = record { long = e ∙ ap length h; bytes = ap (λ (l : List ℕ). l ++ drop r old) h }
 
--- one byte more, behind a text that was put with room to spare
-pub put_more : {t : List ℕ} {r : ℕ} {old new : List ℕ} (d : ℕ) → Put t r old new → length t < length old → Put (t ++ (d ∷ [])) (r + 1) old (set new r d)
-put_more {t} {r} {old} {new} d p h =
-    let longer : length (t ++ (d ∷ [])) ≡ length t + 1 = length-append t (d ∷ []) in
-    let whole : fitted t (length old) ≡ t = fits_in t (length old) (omega arith) in
-    let n : r ≡ length t = p.long ∙ ap length whole in
-    let fits : fitted (t ++ (d ∷ [])) (length old) ≡ t ++ (d ∷ []) = fits_in (t ++ (d ∷ [])) (length old) (omega arith) in
-    record {
-      long = rw (fits, longer) (omega arith);
-      bytes =
-          rw (fits, p.bytes, whole, add-one r)
-          (ap (λ (l : List ℕ). set (t ++ l) r d) (drop-cons old r 0 (omega arith))
-          ∙ set_at t (get_or old r 0) (drop (suc r) old) d r (sym n)
-          ∙ sym (append_assoc t (d ∷ []) (drop (suc r) old)));
-    }
-
--- " cm" behind such a text
-pub put_behind : {t : List ℕ} {r : ℕ} {old new : List ℕ} → Put t r old new → length t + 3 ≤ length old
-    → Put (t ++ cm) (r + 3) old (set (set (set new r 32) (r + 1) 99) (r + 2) 109)
-put_behind {t} {r} {old} {new} p h =
-    let one : length (t ++ (32 ∷ [])) ≡ length t + 1 = length-append t (32 ∷ []) in
-    let two : length ((t ++ (32 ∷ [])) ++ (99 ∷ [])) ≡ length (t ++ (32 ∷ [])) + 1 = length-append (t ++ (32 ∷ [])) (99 ∷ []) in
-    let q = put_more 109 (put_more 99 (put_more 32 p (omega arith)) (omega arith)) (omega arith) in
-    let a : r + 1 + 1 ≡ r + 2 = omega arith in
-    let b : r + 1 + 1 + 1 ≡ r + 3 = omega arith in
-    let text : ((t ++ (32 ∷ [])) ++ (99 ∷ [])) ++ (109 ∷ []) ≡ t ++ cm = simp append_assoc in
-    subst (λ (l : List ℕ). Put l (r + 3) old (set (set (set new r 32) (r + 1) 99) (r + 2) 109)) text
-    (subst (λ (n : ℕ). Put (((t ++ (32 ∷ [])) ++ (99 ∷ [])) ++ (109 ∷ [])) n old (set (set (set new r 32) (r + 1) 99) (r + 2) 109)) b
-    (subst (λ (n : ℕ). Put (((t ++ (32 ∷ [])) ++ (99 ∷ [])) ++ (109 ∷ [])) (r + 1 + 1 + 1) old (set (set (set new r 32) (r + 1) 99) n 109)) a q))
-
 -- how far a decimal number reaches that was put with room to spare
 pub put_reach : (k m n : ℕ) {r : ℕ} {old new : List ℕ} → k + m ≡ 19 → n < 10 ^ suc k → Put (decimal n) r old new → suc k ≤ length old → r ≤ suc k
 put_reach k m n {r} {old} e h p l =
@@ -88,3 +58,22 @@ put_whole {t} {r} {old} {new} p e = sym (take-length new) ∙ ap (λ (n : ℕ). 
 
 pub put_within : {t : List ℕ} {r : ℕ} {old new : List ℕ} → Put t r old new → r ≡ length (take r new)
 put_within {t} {r} {old} {new} p = p.long ∙ ap length (sym (put_part p))
+
+-- a text behind one that was put with room for both, where `room[r..r + k]` is filled with it
+pub put_behind : (t s : List ℕ) (k : ℕ) {r : ℕ} {old new part : List ℕ} → Put t r old new → part ≡ s → k ≡ length s → length t + length s ≤ length old
+    → Put (t ++ s) (r + k) old (put_mid r k new part)
+put_behind t s k {r} {old} {new} {part} p e n h =
+    let whole = fits_in t (length old) (omega arith) in
+    let long : r ≡ length t = p.long ∙ ap length whole in
+    let both : fitted (t ++ s) (length old) ≡ t ++ s = fits_in (t ++ s) (length old) (omega (arith, length-append t s)) in
+    let is : new ≡ t ++ drop r old = p.bytes ∙ ap (λ (l : List ℕ). l ++ drop r old) whole in
+    let rest : drop r new ≡ drop r old = ap (drop r) is ∙ drop_at t (drop r old) r (sym long) in
+    record {
+      long = omega (arith, long, n, length-append t s, ap length both);
+      bytes =
+          ap (λ (l : List ℕ). l ++ (part ++ drop k (drop r new))) (put_part p ∙ whole)
+          ∙ ap₂ (λ (a b : List ℕ). t ++ (a ++ drop k b)) e rest
+          ∙ ap (λ (l : List ℕ). t ++ (s ++ l)) (drop-drop k r old)
+          ∙ sym (append_assoc t s (drop (r + k) old))
+          ∙ ap (λ (l : List ℕ). l ++ drop (r + k) old) (sym both);
+    }

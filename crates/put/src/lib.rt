@@ -5,6 +5,8 @@ ghost use Rattle.std.specs.Prelude.{◌++◌, ◌≤◌, length};
 ghost use Rattle.rules.specs.Text.{decimal, cm};
 ghost use Rattle.put.specs.Put.{Put};
 
+use itoa::Buffer;
+
 // Copies text to the front of room, all of it or, where the room is shorter, nothing. Answers how many bytes that is.
 pub fn put_front(text: &[u8], room: &mut [u8]) -> usize
     ensures { Put text.now result room.old room.new }
@@ -20,13 +22,8 @@ pub fn put_decimal(n: u32, room: &mut [u8]) -> usize
     requires { 10 ≤ length room.old }
     ensures { Put (decimal n) result room.old room.new }
 {
-    if n < 10 {
-        room[0] = 48 + n as u8;
-        return 1;
-    }
-    let k = put_decimal(n / 10, room);
-    room[k] = 48 + (n % 10) as u8;
-    k + 1
+    let mut digits = Buffer::new();
+    put_front(digits.format(n).as_bytes(), room)
 }
 
 // The text of n centimetres in a room that has space for any.
@@ -35,9 +32,7 @@ fn put_centimetres(n: u32, room: &mut [u8]) -> usize
     ensures { Put (decimal n ++ cm) result room.old room.new }
 {
     let k = put_decimal(n, room);
-    room[k] = b' ';
-    room[k + 1] = b'c';
-    room[k + 2] = b'm';
+    room[k..k + 3].copy_from_slice(b" cm");
     k + 3
 }
 

@@ -1,2 +1,1 @@
 pub mod Loops
-pub mod Separators

@@ -1,17 +1,10 @@
--- Loops that append one text after another, and the cells that they read.
-use mathlib.Core.Path.{◌≡◌, refl, sym, ap, subst, ◌∙◌}
-use mathlib.Core.List.{List, [], ◌++◌}
-use Prim.Native.Nat.{ℕ, suc, ◌+◌, ◌*◌, ◌≤◌, ◌<◌, zero-le}
-use native.Mathlib.Omega.{arith}
-use native.Mathlib.Nat.{mul-add, mul-one, mul-le-mul_left}
+-- Loops that put one text after another on a page, and the cells that they read.
+use Rattle.std.proofs.Common.{◌≡◌, ℕ, ℤ, suc, ◌+◌, ◌*◌, ◌<◌, ◌≤◌, List, [], ◌++◌, length, sym, ap, ◌∙◌, arith, append-nil, add-one}
+use native.Mathlib.Nat.{mul-add, mul-one}
 use lib.Arith.{digits_lt}
-use lib.ListN.{length}
-use lib.IntN.{ℤ}
 use Rattle.rules.specs.declared.Card.{Card}
-use native.Mathlib.Numerals.{add-one}
-use Rattle.print.specs.Appended.{Appended}
+use Rattle.print.proofs.Pages.{put_more}
 use Rattle.rows.specs.Rows.{Cell}
-use Rattle.print.proofs.Laws.{appended_more, appended_same, appended_none, appended_length}
 
 -- ---- a cell of a state of at most 32×32 cells
 
@@ -21,35 +14,24 @@ module _ {c : Card} {state : List ℤ} {i j end room : ℕ} (h : Cell c state i 
       let held = h.rows.held in
       omega (arith, digits_lt h.row h.column)
 
--- ---- a loop that appends n texts, each of at most so many bytes: i of them are there
+-- ---- a loop that puts texts of at most so many bytes each: i of them are there
 
-pub record Printing (text : ℕ → List ℕ) (each n at : ℕ) (old : List ℕ) (i end : ℕ) (new : List ℕ) : Type 0 where
-  pub done : i ≤ n
-  pub put : Appended (text i) at end old new
-  pub far : end ≤ at + each * i
-  pub long : length new ≡ length old
+pub record Printing (text : ℕ → List ℕ) (each : ℕ) (old : List ℕ) (i : ℕ) (new : List ℕ) : Type 0 where
+  pub shown : new ≡ old ++ text i
+  pub far : length new ≤ length old + each * i
 
-module _ {text : ℕ → List ℕ} {each n at : ℕ} {old : List ℕ} where
-  pub printing_none : text 0 ≡ [] → Printing text each n at old 0 at old
-  printing_none e = record { done = zero-le; put = appended_same (sym e) appended_none; far = omega arith; long = refl }
+module _ {text : ℕ → List ℕ} {each : ℕ} {old : List ℕ} where
+  pub printing_none : text 0 ≡ [] → Printing text each old 0 old
+  printing_none e = record { shown = sym (append-nil old) ∙ ap (λ (l : List ℕ). old ++ l) (sym e); far = omega arith }
 
-  pub printing_more : {more : List ℕ} {i end end' : ℕ} {mid new : List ℕ} → Printing text each n at old i end mid → i < n → at + each * n ≤ length old
-      → text (suc i) ≡ text i ++ more → Appended more end end' mid new → end' ≤ end + each → Printing text each n at old (i + 1) end' new
-  printing_more {more} {i} {end} {end'} {mid} {new} p l space e q short =
-      let long = p.long in
-      let far = p.far in
-      let stop = q.stop in
+  pub printing_more : {i : ℕ} {mid new : List ℕ} (more : List ℕ) → Printing text each old i mid → text (suc i) ≡ text i ++ more → new ≡ mid ++ more
+      → length new ≤ length mid + each → Printing text each old (i + 1) new
+  printing_more {i} {mid} {new} more p e q short =
       let next : each * (i + 1) ≡ each * i + each = mul-add each i 1 ∙ ap (λ (k : ℕ). each * i + k) (mul-one each) in
-      let within : each * (i + 1) ≤ each * n = mul-le-mul_left each (let k : i + 1 ≤ n = omega arith in k) in
       record {
-        done = omega arith;
-        put = appended_same (sym e ∙ ap text (sym (add-one i))) (appended_more p.put q (omega arith));
-        far = omega arith;
-        long = appended_length q (omega arith) ∙ long;
+        shown = put_more old (text i) more p.shown q ∙ ap (λ (l : List ℕ). old ++ l) (sym e ∙ ap text (sym (add-one i)));
+        far = omega (arith, p.far, next, short);
       }
 
-  pub printed_all : {i end : ℕ} {new : List ℕ} → Printing text each n at old i end new → n ≤ i → Appended (text n) at end old new × (end ≤ at + each * n)
-  printed_all {i} {end} {new} p h =
-      let done = p.done in
-      let e : i ≡ n = omega arith in
-      (appended_same (ap text e) p.put, subst (λ (k : ℕ). end ≤ at + each * k) e p.far)
+  pub printed_all : {i n : ℕ} {new : List ℕ} → Printing text each old i new → i ≡ n → Printing text each old n new
+  printed_all {i} {n} {new} p e = rw (← e) p

@@ -1,9 +1,9 @@
--- Rows that have space in a list: what the functions that print them ask of each other.
+-- Rows that have space on a page: what the functions that print them ask of each other.
 use Rattle.std.specs.Prelude.{List, ℕ, ◌≤◌, ◌<◌, ℤ, length}
 use Rattle.rules.specs.declared.Card.{Card}
 use Rattle.rules.specs.Site.{cells}
 
--- a state of at most 32×32 cells, whose lines end at or before `end` in a list of `room` bytes; a row of it; and a cell of it
+-- a state of at most 32×32 cells, whose lines end at or before `end` on a page of `room` bytes; a row of it; and a cell of it
 pub record Rows (c : Card) (state : List ℤ) (end room : ℕ) : Type 0 where
   pub narrow : c.columns ≤ 32
   pub short : c.rows ≤ 32

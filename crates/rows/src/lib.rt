@@ -3,21 +3,20 @@
 
 ghost use Rattle.std.specs.Prelude.{◌≡◌, cond, [], ◌++◌, ◌+◌, ◌*◌, ◌≤◌, ◌<◌, length, eqb};
 ghost use Rattle.rules.specs.Play.{comma, line_feed, cell_text, row_texts, row_lines};
-ghost use Rattle.print.specs.Appended.{Appended};
 ghost use Rattle.rows.specs.Rows.{Rows, Row, Cell};
 
+use print::Page;
 use rules::Card;
 
 // A comma and a space before each text but the first.
-fn append_comma(i: usize, out: &mut [u8], at: usize) -> usize
-    requires { at + 2 ≤ length out.old }
-    ensures text { Appended (cond (eqb i 0) [] comma) at result out.old out.new }
-    ensures end { result ≤ at + 2 }
+fn put_comma(i: usize, page: &mut Page)
+    requires { length page.old + 2 ≤ 9298 }
+    ensures text { page.new ≡ page.old ++ cond (eqb i 0) [] comma }
+    ensures end { length page.new ≤ length page.old + 2 }
 {
-    if i == 0 {
-        return at;
+    if i != 0 {
+        page.put(b", ");
     }
-    print::append(b", ", out, at)
 }
 
 // A product of two numbers of at most 32.
@@ -38,54 +37,45 @@ fn row_start(card: Card, j: usize) -> usize
 }
 
 // The depth text of a cell, joined to those before it.
-fn append_cell(card: Card, state: &[i32], i: usize, j: usize, out: &mut [u8], at: usize) -> usize
-    requires { Cell card state.now i j (at + 9) (length out.old) }
-    ensures text { Appended (cell_text card state.now i j) at result out.old out.new }
-    ensures end { result ≤ at + 9 }
+fn put_cell(card: Card, state: &[i32], i: usize, j: usize, page: &mut Page)
+    requires { Cell card state.now i j (length page.old + 9) 9298 }
+    ensures text { page.new ≡ page.old ++ cell_text card state.now i j }
+    ensures end { length page.new ≤ length page.old + 9 }
 {
     let start = row_start(card, j);
-    let height = state[start + i];
-    let text = append_comma(i, out, at);
-    print::append_depth(height, out, text)
+    put_comma(i, page);
+    page.put_depth(state[start + i]);
 }
 
 // The depth texts of row j.
-fn row_texts(card: Card, state: &[i32], j: usize, out: &mut [u8], at: usize) -> usize
-    requires { Row card state.now j (at + 9 * card.columns) (length out.old) }
-    ensures text { Appended (row_texts card state.now j card.columns) at result out.old out.new }
-    ensures end { result ≤ at + 9 * card.columns }
+fn put_texts(card: Card, state: &[i32], j: usize, page: &mut Page)
+    requires { Row card state.now j (length page.old + 9 * card.columns) 9298 }
+    ensures text { page.new ≡ page.old ++ row_texts card state.now j card.columns }
+    ensures end { length page.new ≤ length page.old + 9 * card.columns }
 {
-    let columns = card.columns as usize;
-    let mut i = 0;
-    let mut end = at;
-    while i < columns {
-        end = append_cell(card, state, i, j, out, end);
-        i += 1;
+    // By column, the number that a cell's place takes.
+    for i in 0..card.columns as usize {
+        put_cell(card, state, i, j, page);
     }
-    end
 }
 
 // The line of row j.
-fn row_line(card: Card, state: &[i32], j: usize, out: &mut [u8], at: usize) -> usize
-    requires { Row card state.now j (at + 289) (length out.old) }
-    ensures text { Appended (row_texts card state.now j card.columns ++ line_feed) at result out.old out.new }
-    ensures end { result ≤ at + 289 }
+fn put_row(card: Card, state: &[i32], j: usize, page: &mut Page)
+    requires { Row card state.now j (length page.old + 289) 9298 }
+    ensures text { page.new ≡ page.old ++ (row_texts card state.now j card.columns ++ line_feed) }
+    ensures end { length page.new ≤ length page.old + 289 }
 {
-    let end = row_texts(card, state, j, out, at);
-    print::append(b"\n", out, end)
+    put_texts(card, state, j, page);
+    page.put(b"\n");
 }
 
 // A line for each row, south first.
-pub fn row_lines(card: Card, state: &[i32], out: &mut [u8], at: usize) -> usize
-    requires { Rows card state.now (at + 9248) (length out.old) }
-    ensures { Appended (row_lines card state.now card.rows) at result out.old out.new }
+pub fn put_rows(card: Card, state: &[i32], page: &mut Page)
+    requires { Rows card state.now (length page.old + 9248) 9298 }
+    ensures { page.new ≡ page.old ++ row_lines card state.now card.rows }
 {
-    let rows = card.rows as usize;
-    let mut j = 0;
-    let mut end = at;
-    while j < rows {
-        end = row_line(card, state, j, out, end);
-        j += 1;
+    // By row, the number that a cell's place takes.
+    for j in 0..card.rows as usize {
+        put_row(card, state, j, page);
     }
-    end
 }

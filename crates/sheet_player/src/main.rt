@@ -16,6 +16,7 @@ fn main(rt: HostRuntime) -> io::Result<()> {
     let mut input = [0u8; 16660];
     let mut reader = rt.reader();
     let mut n = 0;
+    // A `while`: how many bytes a turn brings is the reader's to say, so there is nothing to count through, and no heap for `read_to_end`.
     while n < 16660 {
         let more = reader.read(&mut input[n..])?;
         if more == 0 {

@@ -1,19 +1,16 @@
 -- Laws of the depth text of a height.
-use mathlib.Core.Path.{◌≡◌, refl, sym, ap, ◌∙◌, subst, subst⁻¹}
-use Prim.Native.Nat.{ℕ, ◌+◌, ◌/◌, ◌<◌, ◌≤◌}
+use mathlib.Core.Path.{◌≡◌, refl, sym, ap, ◌∙◌, subst}
+use Prim.Native.Nat.{ℕ, ◌+◌, ◌/◌, ◌^◌, ◌<◌, ◌≤◌}
 use native.Mathlib.Omega.{arith}
-use mathlib.Core.Bool.{true, false}
 use lib.IntN.{ℤ, pos, negsuc, nat_abs}
-use lib.Signed.{lt_z, non_neg}
 use mir.Syntax.{w32}
-use mir.Val.{Fits, SFits, to_z, of_z}
+use mir.Val.{SFits, to_z, of_z}
 use mir.Facts.{to_z-of_z}
 use mathlib.Core.List.{List, [], ◌++◌}
 use lib.ListN.{length, drop}
-use lib.Dec.{T}
-use borrow.Author.Tests.{ltb-true, lt-ltb, le-ltb, le-leb, lt-leb, eq-eqb, ne_eqb}
+use borrow.Author.Tests.{lt-ltb, le-ltb, le-leb, lt-leb, eq-eqb, ne_eqb}
 use Rattle.rules.specs.Text.{decimal, height_text, depth_text, fitted, dry, under_one, cm}
-use Rattle.laws.specs.SignTests.{not_under}
+use Rattle.std.specs.Int.{FitsUnsignedBits}
 use Rattle.rules.specs.Calls.{text_part, text_scratch}
 use Rattle.put.specs.Put.{Put}
 
@@ -44,30 +41,23 @@ told_put h {r} {old} long bytes = record { long = long; bytes = bytes ∙ ap (λ
 
 -- ---- a signed height: the code reads it as `to_z w32 (of_z w32 z)`, which is z
 
-neg_none : (z : ℤ) → lt_z z (pos 0) ≡ true → depth_text z ≡ []
+out_of_range : (z : ℤ) → SFits w32 z → (FitsUnsignedBits 32 z → ⊥) → depth_text z ≡ []
 unfolding depth_text
-neg_none (pos n) t = let l : n < 0 = ltb-true n 0 t in absurd (omega arith)
-neg_none (negsuc n) t = refl
+out_of_range (pos n) f h = let b : n < 2147483648 = f.sfits in let l : n < 2 ^ 32 = omega arith in absurd (h l)
+out_of_range (negsuc n) f h = refl
 
-abs_fits : (z : ℤ) → SFits w32 z → Fits w32 (nat_abs z)
-abs_fits (pos n) f = let b : n < 2147483648 = f.sfits in record { fits = omega arith }
-abs_fits (negsuc n) f = let b : n < 2147483648 = f.sfits in record { fits = omega arith }
-
-abs_text : (z : ℤ) → T (non_neg z) → height_text (nat_abs z) ≡ depth_text z
+size_text : (z : ℤ) → FitsUnsignedBits 32 z → height_text (nat_abs z) ≡ depth_text z
 unfolding depth_text
-abs_text (pos n) t = refl
-abs_text (negsuc n) t = absurd t
+size_text (pos n) h = refl
+size_text (negsuc n) h = absurd h
 
 module _ (z : ℤ) (f : SFits w32 z) where
   -- a height that is handed on to a callee
   pub signed_same : depth_text (to_z w32 (of_z w32 z)) ≡ depth_text z
   signed_same = ap depth_text (to_z-of_z f)
 
-  pub signed_none : lt_z (to_z w32 (of_z w32 z)) (pos 0) ≡ true → depth_text z ≡ []
-  signed_none t = neg_none z (subst (λ (x : ℤ). lt_z x (pos 0) ≡ true) (to_z-of_z f) t)
+  pub signed_none : (FitsUnsignedBits 32 (to_z w32 (of_z w32 z)) → ⊥) → depth_text z ≡ []
+  signed_none h = out_of_range z f (subst (λ (x : ℤ). FitsUnsignedBits 32 x → ⊥) (to_z-of_z f) h)
 
-  pub signed_cast : lt_z (to_z w32 (of_z w32 z)) (pos 0) ≡ false → T (non_neg (to_z w32 (of_z w32 z))) × Fits w32 (nat_abs (to_z w32 (of_z w32 z)))
-  signed_cast t = (not_under (to_z w32 (of_z w32 z)) t, subst⁻¹ (λ (x : ℤ). Fits w32 (nat_abs x)) (to_z-of_z f) (abs_fits z f))
-
-  pub signed_text : lt_z (to_z w32 (of_z w32 z)) (pos 0) ≡ false → height_text (nat_abs (to_z w32 (of_z w32 z))) ≡ depth_text z
-  signed_text t = abs_text (to_z w32 (of_z w32 z)) (not_under (to_z w32 (of_z w32 z)) t) ∙ ap depth_text (to_z-of_z f)
+  pub signed_text : FitsUnsignedBits 32 (to_z w32 (of_z w32 z)) → height_text (nat_abs (to_z w32 (of_z w32 z))) ≡ depth_text z
+  signed_text h = size_text (to_z w32 (of_z w32 z)) h ∙ ap depth_text (to_z-of_z f)

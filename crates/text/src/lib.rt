@@ -27,10 +27,10 @@ pub fn write_text(height: i32, scratch: &mut [u8]) -> usize
     ensures length { result ≡ length (text_part height scratch.old) }
     ensures scratch { scratch.new ≡ text_scratch height scratch.old }
 {
-    if height < 0 {
-        return 0;
+    match u32::try_from(height) {
+        Ok(h) => put_height(h, scratch),
+        Err(_) => 0,
     }
-    put_height(height as u32, scratch)
 }
 
 // The same, and the written part is handed back. Where the text takes the whole scratch, the scratch itself is.

@@ -1,14 +1,17 @@
--- `print_input`: the refused line where the player's number is not 0, and elsewhere what is printed of the run.
-use mathlib.Core.Path.{sym, ap, ◌∙◌}
+-- `print_input`: the refused line where the player refuses, and elsewhere what is printed of the run.
+use Rattle.std.proofs.Common.{sym, ap, ◌∙◌, List, ℕ, ◌++◌}
 use Rattle.rules.specs.Play.{refused_line}
-use Rattle.print.proofs.Laws.{appended_same}
+use Rattle.laws.specs.Refusing.{number-ne0}
 use Rattle.play.proofs.Numbers.{printed_refused, printed_played}
 use Rattle.play.proofs.print_input.Goals as goal
 
-pub returns-then-number-ne0 : goal.returns-then-number-ne0
-returns-then-number-ne0 c =
-    let n = c.play_number-number.ensures in
-    appended_same (ap refused_line n ∙ printed_refused c.args.input.now (λ z. c.if-number-ne0.true (n ∙ z))) c.refused_line.ensures
+pub returns-in-Err : goal.returns-in-Err
+returns-in-Err c =
+    let n = c.in-Err.ensures in
+    c.refused_line.ensures
+    ∙ ap (λ (l : List ℕ). l ++ refused_line c.from.result) c.requires
+    ∙ ap refused_line (c.from.ensures ∙ n)
+    ∙ printed_refused c.args.input.now (λ z. number-ne0 _ (n ∙ z))
 
-pub returns : goal.returns
-returns c = appended_same (printed_played c.args.input.now (sym c.play_number-number.ensures ∙ c.if-number-ne0.false)) c.print_cut.ensures
+pub returns-in-Ok : goal.returns-in-Ok
+returns-in-Ok c = c.print_cut.ensures ∙ printed_played c.args.input.now (sym c.in-Ok.ensures)
