@@ -5,5 +5,5 @@ mod counts;
 mod signs;
 mod sizes;
 
-pub use counts::{Count, count_in};
-pub use signs::{Decimal, decimal_in};
+pub use counts::count_in;
+pub use signs::{Decimal, decimal_in, is_minus};

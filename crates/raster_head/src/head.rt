@@ -1,41 +1,37 @@
 // The six keys in their order.
+ghost use Rattle.std.specs.Prelude.{◌≡◌, false, MatchOption, option_map};
+ghost use Rattle.rules.specs.Raster.{words_of, head_fits};
 ghost use Rattle.raster_laws.specs.Heads.{Headed};
+ghost use Rattle.decimals.specs.Values.{value_of};
 
 use crate::fields;
+use decimals::Decimal;
 
-// Whether the front of a text is that of a raster; its columns, rows and side, the no-data value where one is given, and where the values begin.
-#[derive(Clone, Copy)]
+// What stands in front of a raster's values: columns, rows and side, the no-data value where one is given, and where the values begin.
+#[derive(Clone, Copy, Debug)]
 pub struct Head {
-    pub fits: bool,
     pub columns: u64,
     pub rows: u64,
-    pub minus: bool,
-    pub side: u64,
-    pub given: bool,
-    pub no_data_minus: bool,
-    pub no_data: u64,
+    pub side: Decimal,
+    pub no_data: Option<Decimal>,
     pub end: usize,
 }
 
 // The corner is checked and dropped.
-pub fn head_in(text: &[u8]) -> Head
-    ensures { Headed text.now result.fits result.columns result.rows result.minus result.side result.given result.no_data_minus result.no_data result.end }
+pub fn head_in(text: &[u8]) -> Option<Head>
+    ensures { MatchOption result (head_fits (words_of text.now) ≡ false) (λ head. Headed text.now head.columns head.rows (value_of head.side) (option_map value_of head.no_data) head.end) }
 {
-    let columns = fields::count_at(text, true, 0, b"ncols");
-    let rows = fields::count_at(text, columns.fits, columns.end, b"nrows");
-    let x = fields::measure_at(text, rows.fits, rows.end, b"xllcorner");
-    let y = fields::measure_at(text, x.fits, x.end, b"yllcorner");
-    let side = fields::measure_at(text, y.fits, y.end, b"cellsize");
-    let no_data = fields::no_data_at(text, side.fits, side.end);
-    Head {
-        fits: no_data.fits,
-        columns: columns.number,
-        rows: rows.number,
-        minus: side.minus,
-        side: side.size,
-        given: no_data.given,
-        no_data_minus: no_data.minus,
-        no_data: no_data.size,
-        end: no_data.end,
-    }
+    let (columns, at) = fields::count_at(text, 0, b"ncols")?;
+    let (rows, at) = fields::count_at(text, at, b"nrows")?;
+    let (_, at) = fields::measure_at(text, at, b"xllcorner")?;
+    let (_, at) = fields::measure_at(text, at, b"yllcorner")?;
+    let (side, at) = fields::measure_at(text, at, b"cellsize")?;
+    let (no_data, end) = fields::no_data_at(text, at)?;
+    Some(Head {
+        columns,
+        rows,
+        side,
+        no_data,
+        end,
+    })
 }

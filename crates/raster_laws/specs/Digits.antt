@@ -1,7 +1,7 @@
 -- Digits: those in front of a word, one after the other, and the number that they are.
 use Rattle.std.specs.Prelude.{ℕ, suc, ◌+◌, ◌*◌, ◌-◌, ◌^◌, ◌≤◌, ◌<◌, ◌≡◌, refl, Bool, true, false, cond, ◌&&◌, length, get_or, leb, eqb}
 use Rattle.std.proofs.Math.Path.{sym, ap}
-use Rattle.std.proofs.Common.{◌∙◌, arith, add-one, mul-one, pow-suc, add-zero, zero-add, add_assoc, add-mul, mul_assoc, drop_of_length-le, leb→le, ne_eqb}
+use Rattle.std.proofs.Common.{◌∙◌, subst, arith, add-one, mul-one, pow-suc, add-zero, zero-add, add_assoc, add-mul, mul_assoc, drop_of_length-le, leb→le, ne_eqb}
 use mathlib.Core.List.{List, [], ◌∷◌}
 use Rattle.std.proofs.Math.Nat.{pow-succ', pow-le-pow_right}
 use Rattle.std.proofs.Math.ListN.{drop}
@@ -95,17 +95,19 @@ module _ {word : List ℕ} {at number : ℕ} where
         small = r.small;
       }
 
-  pub read_all : {n i : ℕ} → Reading word at number n i → length word ≤ i → DigitsFrom word at number n i
+  pub read_all : {n i : ℕ} → Reading word at number n i → length word ≤ i → DigitsFrom word at number n (length word)
   unfolding number_behind digits_front
   read_all {n} {i} r h =
       let front : digits_front (drop i word) ≡ [] = ap digits_front (drop_of_length-le word h) in
-      record {
+      let within = r.within in
+      let all : i ≡ length word = omega arith in
+      subst (λ (k : ℕ). DigitsFrom word at number n k) all (record {
         from = r.from;
-        within = r.within;
+        within = within;
         ends = sym (r.ends ∙ rw front (add-zero i));
         is = sym (r.is ∙ rw front);
         small = r.small;
-      }
+      })
 
 -- ---- A word that is digits and nothing else
 
@@ -166,7 +168,7 @@ pub record Behind (word : List ℕ) (at number : ℕ) : Type 0 where
   pub few : at ≤ 12
   pub small : number < 10 ^ at
 
--- ---- A number of so many places behind the point, taken up to six: a loop over the places that are not written
+-- ---- A number of so many places behind the point, taken up to six, place by place
 
 pub record Scaling (number places n k : ℕ) : Type 0 where
   pub from : places ≤ k

@@ -1,13 +1,12 @@
 -- The values of a raster that passes, read into a list: one row, and row by row from the north.
 use Rattle.std.specs.Prelude.{ℕ, suc, ◌+◌, ◌*◌, ◌-◌, ◌≤◌, ◌<◌, ◌≡◌, refl, Bool, true, false, List, [], ◌∷◌, ◌++◌, ℤ, pos, nat_abs, length, set, take, drop, ltb}
-use Rattle.std.proofs.Common.{sym, ◌∙◌, subst, arith, suc-mul, add-mul, zero-mul, mul-le-mul, length-drop, length-append, take-append-drop, drop_of_length-le, get_or-drop, get_or-take, drop-drop, drop_at, length-take-le, ext_get_or, ltb-true, ltb-false}
+use Rattle.std.proofs.Common.{sym, ◌∙◌, subst, arith, suc-mul, add-mul, zero-mul, length-drop, length-append, take-append-drop, drop_of_length-le, get_or-drop, get_or-take, drop-drop, drop_at, length-take-le, ext_get_or, ltb-true, ltb-false, mul-le-mul}
 use Rattle.std.proofs.Math.Path.{ap, ap₂}
-use Rattle.std.proofs.Math.Bool.{cond}
 use Rattle.std.proofs.Math.ListN.{get_or}
 use Rattle.std.proofs.lemmas.List.{length-map}
 use borrow.Rule.Slice.PartMut.{put_mid}
 use Rattle.rules.specs.Grid.{grid}
-use Rattle.rules.specs.Raster.{words_of, word, is_decimal, decimal_value, signed, is_minus, unsigned, size_of, value_words, values_in, rows_turned, raster_ground}
+use Rattle.rules.specs.Raster.{words_of, word, is_decimal, decimal_value, signed, value_words, values_in, rows_turned, raster_ground}
 use Rattle.laws.specs.Copies.{Copied, begin, more, done}
 use Rattle.laws.specs.Grids.{get_d_grid, length-grid}
 use Rattle.raster_laws.specs.Words.{Skipped, WordAt, Word, between, no_words}
@@ -70,18 +69,18 @@ module _ {text : List ℕ} {at : ℕ} (old : List ℤ) (r : Readable text at (le
       word_is : word ws i ≡ between text start end
       word_is = met_is ws i (between text start end) [] (words_of (drop end text)) met
 
-      module _ {fits minus : Bool} {size : ℕ} (f : fits ≡ is_decimal (between text start end)) (m : minus ≡ is_minus (between text start end)) (z : size ≡ cond fits (size_of (unsigned (between text start end))) 0) where
+      pub row_decimal : is_decimal (between text start end) ≡ true
+      row_decimal = ap is_decimal (sym word_is) ∙ r.decimals i h
+
+      module _ (minus : Bool) (size : ℕ) (v : signed minus size ≡ decimal_value (between text start end)) where
         is_value : signed minus size ≡ decimal_value (word ws i)
-        unfolding decimal_value
-        is_value =
-            ap₂ signed m (z ∙ ap (λ (t : Bool). cond t (size_of (unsigned (between text start end))) 0) (f ∙ ap is_decimal (sym word_is) ∙ r.decimals i h))
-            ∙ ap decimal_value (sym word_is)
+        is_value = v ∙ ap decimal_value (sym word_is)
 
         pub row_small : size ≤ 50000000
         row_small = subst (λ (n : ℕ). n ≤ 50000000) (ap nat_abs (sym is_value) ∙ size_signed minus size) (r.small i h)
 
-        pub row_more : {v : ℤ} → v ≡ signed minus size → RowReading text at old end (set row i v) (i + 1)
-        row_more {v} e = record {
+        pub row_more : {z : ℤ} → z ≡ signed minus size → RowReading text at old end (set row i z) (i + 1)
+        row_more e = record {
           within = w.within;
           rest = sym (met_rest ws i (between text start end) [] (words_of (drop end text)) met);
           filled =

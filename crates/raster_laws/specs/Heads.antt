@@ -1,148 +1,157 @@
 -- The keys of a raster in their order, each with its value, found one behind the other.
-use Rattle.std.specs.Prelude.{ℕ, suc, ◌+◌, ◌≤◌, ◌≡◌, refl, Bool, true, false, cond, ◌||◌, length}
+use Rattle.std.specs.Prelude.{ℕ, suc, ◌+◌, ◌≤◌, ◌≡◌, refl, Bool, true, false, cond, ◌||◌, ℤ, Option, Some, None, length}
 use Rattle.std.proofs.Common.{sym, ◌∙◌, add-zero, add-one, get_or-drop, drop-drop}
 use Rattle.std.proofs.Math.Path.{ap, ap₂}
 use Rattle.std.proofs.Math.Bool.{not, ◌&&◌}
 use mathlib.Core.List.{List, []}
 use Rattle.std.proofs.Math.ListN.{drop}
-use Rattle.rules.specs.Raster.{words_of, word, is_key, ncols, nrows, xllcorner, yllcorner, cellsize, nodata_value, is_decimal, digits_fit, number_of, signed, decimal_value, count_at, decimal_at, has_no_data, head_fits, columns_in, rows_in, side_in, no_data_in, value_words}
-use Rattle.laws.specs.Tests.{to_T, true_of, and_left}
-use Rattle.raster_laws.specs.Fields.{CountedAt, MeasuredAt, NoDataAt}
+use Rattle.rules.specs.Raster.{words_of, word, is_key, ncols, nrows, xllcorner, yllcorner, cellsize, nodata_value, is_decimal, digits_fit, number_of, decimal_value, count_at, decimal_at, has_no_data, head_fits, columns_in, rows_in, side_in, no_data_in, value_words}
+use Rattle.raster_laws.specs.Fields.{CountedAt, MeasuredAt, NoDataAt, no_data_fits}
 
-pub record Headed (text : List ℕ) (fits : Bool) (columns rows : ℕ) (minus : Bool) (side : ℕ) (given no_data_minus : Bool) (no_data end : ℕ) : Type 0 where
+-- the no-data value of a text's words, where one is given
+abbrev pub given_in : (words : List (List ℕ)) → Option ℤ
+given_in ws = cond (has_no_data ws) (Some (no_data_in ws)) None
+
+pub record Headed (text : List ℕ) (columns rows : ℕ) (side : ℤ) (no_data : Option ℤ) (end : ℕ) : Type 0 where
   pub within : end ≤ length text
-  pub says : fits ≡ head_fits (words_of text)
-  pub columns_are : fits ≡ true → columns ≡ columns_in (words_of text)
-  pub rows_are : fits ≡ true → rows ≡ rows_in (words_of text)
-  pub side_is : fits ≡ true → signed minus side ≡ side_in (words_of text)
-  pub given_so : fits ≡ true → given ≡ has_no_data (words_of text)
-  pub no_data_is : fits ≡ true → given ≡ true → signed no_data_minus no_data ≡ no_data_in (words_of text)
-  pub values : fits ≡ true → words_of (drop end text) ≡ value_words (words_of text)
+  pub says : head_fits (words_of text) ≡ true
+  pub columns_are : columns ≡ columns_in (words_of text)
+  pub rows_are : rows ≡ rows_in (words_of text)
+  pub side_is : side ≡ side_in (words_of text)
+  pub no_data_is : no_data ≡ given_in (words_of text)
+  pub values : words_of (drop end text) ≡ value_words (words_of text)
 
--- ---- One key more: behind the first k words, where all before was right
+-- ---- What is said of the words from k on
 
--- a key that is right says that all before it was
-granted : (ok q : Bool) {fits : Bool} → fits ≡ (ok && q) → fits ≡ true → ok ≡ true
-granted ok q e f = true_of ok (and_left ok q (to_T (sym e ∙ f)))
-
-module _ (ws here : List (List ℕ)) (ok : Bool) (k : ℕ) (so_far : ok ≡ true → here ≡ drop k ws) where
-  -- it is right where the same is said of all words, from k on
-  says_on : (p : List (List ℕ) → Bool) → (ok && p here) ≡ (ok && p (drop k ws))
-  says_on p = go ok so_far
-    where
-      go : (t : Bool) → (t ≡ true → here ≡ drop k ws) → (t && p here) ≡ (t && p (drop k ws))
-      go true f = ap p (f refl)
-      go false f = refl
-
-  word_on : (i : ℕ) → ok ≡ true → word here i ≡ word ws (k + i)
-  word_on i e = ap (λ (l : List (List ℕ)). word l i) (so_far e) ∙ get_or-drop k ws i []
-
-  rest_on : (m : ℕ) {rest : List (List ℕ)} → ok ≡ true → rest ≡ drop m here → rest ≡ drop (k + m) ws
-  rest_on m e f = f ∙ ap (drop m) (so_far e) ∙ drop-drop m k ws
-
--- what is said of the words from k on
 first_on : (ws : List (List ℕ)) (k : ℕ) → word (drop k ws) 0 ≡ word ws k
 first_on ws k = get_or-drop k ws 0 [] ∙ ap (word ws) (add-zero k)
 
 second_on : (ws : List (List ℕ)) (k : ℕ) → word (drop k ws) 1 ≡ word ws (suc k)
 second_on ws k = get_or-drop k ws 1 [] ∙ ap (word ws) (add-one k)
 
-count_on : (ws : List (List ℕ)) (key : List ℕ) (k : ℕ) → count_at (drop k ws) key 0 ≡ count_at ws key k
-unfolding count_at
-count_on ws key k = ap₂ (λ (v w : List ℕ). is_key key v && digits_fit 12 w) (first_on ws k) (second_on ws k)
+module _ (ws here : List (List ℕ)) (k : ℕ) (e : here ≡ drop k ws) where
+  count_on : (key : List ℕ) → count_at here key 0 ≡ count_at ws key k
+  unfolding count_at
+  count_on key = ap (λ (l : List (List ℕ)). count_at l key 0) e ∙ ap₂ (λ (v w : List ℕ). is_key key v && digits_fit 12 w) (first_on ws k) (second_on ws k)
 
-decimal_on : (ws : List (List ℕ)) (key : List ℕ) (k : ℕ) → decimal_at (drop k ws) key 0 ≡ decimal_at ws key k
-unfolding decimal_at
-decimal_on ws key k = ap₂ (λ (v w : List ℕ). is_key key v && is_decimal w) (first_on ws k) (second_on ws k)
+  decimal_on : (key : List ℕ) → decimal_at here key 0 ≡ decimal_at ws key k
+  unfolding decimal_at
+  decimal_on key = ap (λ (l : List (List ℕ)). decimal_at l key 0) e ∙ ap₂ (λ (v w : List ℕ). is_key key v && is_decimal w) (first_on ws k) (second_on ws k)
 
--- ---- All of them
+  first_is : word here 0 ≡ word ws k
+  first_is = ap (λ (l : List (List ℕ)). word l 0) e ∙ first_on ws k
 
-module _ {text : List ℕ}
-    {f₀ f₁ f₂ f₃ f₄ f₅ : Bool} {columns rows : ℕ} {m₂ m₃ minus : Bool} {n₂ n₃ side : ℕ} {given no_data_minus : Bool} {no_data : ℕ} {e₀ e₁ e₂ e₃ e₄ end : ℕ}
-    (c : CountedAt text true 0 ncols f₀ columns e₀)
-    (r : CountedAt text f₀ e₀ nrows f₁ rows e₁)
-    (x : MeasuredAt text f₁ e₁ xllcorner f₂ m₂ n₂ e₂)
-    (y : MeasuredAt text f₂ e₂ yllcorner f₃ m₃ n₃ e₃)
-    (s : MeasuredAt text f₃ e₃ cellsize f₄ minus side e₄)
-    (l : NoDataAt text f₄ e₄ f₅ given no_data_minus no_data end) where
+  second_is : word here 1 ≡ word ws (suc k)
+  second_is = ap (λ (l : List (List ℕ)). word l 1) e ∙ second_on ws k
+
+  rest_on : (m : ℕ) {rest : List (List ℕ)} → rest ≡ drop m here → rest ≡ drop (k + m) ws
+  rest_on m f = f ∙ ap (drop m) e ∙ drop-drop m k ws
+
+-- ---- One key after the other: each may be missing, and then the text is no raster's
+
+module _ (text : List ℕ) where
   abbrev ws : List (List ℕ)
   ws = words_of text
 
-  -- each key is right only where the one before it is
-  back₁ : f₁ ≡ true → f₀ ≡ true
-  back₁ = granted f₀ _ r.says
+  pub no_columns : count_at (words_of (drop 0 text)) ncols 0 ≡ false → head_fits ws ≡ false
+  unfolding head_fits
+  no_columns f = rw f
 
-  back₂ : f₂ ≡ true → f₁ ≡ true
-  back₂ = granted f₁ _ x.says
+  module _ {columns e₀ : ℕ} (c : CountedAt text 0 ncols columns e₀) where
+    says₀ : count_at ws ncols 0 ≡ true
+    says₀ = c.says
 
-  back₃ : f₃ ≡ true → f₂ ≡ true
-  back₃ = granted f₂ _ y.says
+    left₀ : words_of (drop e₀ text) ≡ drop 2 ws
+    left₀ = c.rest
 
-  back₄ : f₄ ≡ true → f₃ ≡ true
-  back₄ = granted f₃ _ s.says
+    here₁ : count_at (words_of (drop e₀ text)) nrows 0 ≡ count_at ws nrows 2
+    here₁ = count_on ws _ 2 left₀ nrows
 
-  back₅ : f₅ ≡ true → f₄ ≡ true
-  back₅ = granted f₄ _ l.says
+    pub no_rows : count_at (words_of (drop e₀ text)) nrows 0 ≡ false → head_fits ws ≡ false
+    unfolding head_fits
+    no_rows f = rw (says₀, sym here₁ ∙ f)
 
-  -- the words that are left behind each
-  left₀ : f₀ ≡ true → words_of (drop e₀ text) ≡ drop 2 ws
-  left₀ e = c.rest e
+    module _ {rows e₁ : ℕ} (r : CountedAt text e₀ nrows rows e₁) where
+      says₁ : count_at ws nrows 2 ≡ true
+      says₁ = sym here₁ ∙ r.says
 
-  left₁ : f₁ ≡ true → words_of (drop e₁ text) ≡ drop 4 ws
-  left₁ e = rest_on ws (words_of (drop e₀ text)) f₀ 2 left₀ 2 (back₁ e) (r.rest e)
+      left₁ : words_of (drop e₁ text) ≡ drop 4 ws
+      left₁ = rest_on ws _ 2 left₀ 2 r.rest
 
-  left₂ : f₂ ≡ true → words_of (drop e₂ text) ≡ drop 6 ws
-  left₂ e = rest_on ws (words_of (drop e₁ text)) f₁ 4 left₁ 2 (back₂ e) (x.rest e)
+      here₂ : decimal_at (words_of (drop e₁ text)) xllcorner 0 ≡ decimal_at ws xllcorner 4
+      here₂ = decimal_on ws _ 4 left₁ xllcorner
 
-  left₃ : f₃ ≡ true → words_of (drop e₃ text) ≡ drop 8 ws
-  left₃ e = rest_on ws (words_of (drop e₂ text)) f₂ 6 left₂ 2 (back₃ e) (y.rest e)
+      pub no_west : decimal_at (words_of (drop e₁ text)) xllcorner 0 ≡ false → head_fits ws ≡ false
+      unfolding head_fits
+      no_west f = rw (says₀, says₁, sym here₂ ∙ f)
 
-  left₄ : f₄ ≡ true → words_of (drop e₄ text) ≡ drop 10 ws
-  left₄ e = rest_on ws (words_of (drop e₃ text)) f₃ 8 left₃ 2 (back₄ e) (s.rest e)
+      module _ {west : ℤ} {e₂ : ℕ} (x : MeasuredAt text e₁ xllcorner west e₂) where
+        says₂ : decimal_at ws xllcorner 4 ≡ true
+        says₂ = sym here₂ ∙ x.says
 
-  -- what each says
-  says₁ : f₁ ≡ (count_at ws ncols 0 && count_at ws nrows 2)
-  says₁ = r.says ∙ says_on ws (words_of (drop e₀ text)) f₀ 2 left₀ (λ l. count_at l nrows 0) ∙ ap₂ ◌&&◌ c.says (count_on ws nrows 2)
+        left₂ : words_of (drop e₂ text) ≡ drop 6 ws
+        left₂ = rest_on ws _ 4 left₁ 2 x.rest
 
-  says₂ : f₂ ≡ (count_at ws ncols 0 && count_at ws nrows 2 && decimal_at ws xllcorner 4)
-  says₂ = x.says ∙ says_on ws (words_of (drop e₁ text)) f₁ 4 left₁ (λ l. decimal_at l xllcorner 0) ∙ ap₂ ◌&&◌ says₁ (decimal_on ws xllcorner 4)
+        here₃ : decimal_at (words_of (drop e₂ text)) yllcorner 0 ≡ decimal_at ws yllcorner 6
+        here₃ = decimal_on ws _ 6 left₂ yllcorner
 
-  says₃ : f₃ ≡ (count_at ws ncols 0 && count_at ws nrows 2 && decimal_at ws xllcorner 4 && decimal_at ws yllcorner 6)
-  says₃ = y.says ∙ says_on ws (words_of (drop e₂ text)) f₂ 6 left₂ (λ l. decimal_at l yllcorner 0) ∙ ap₂ ◌&&◌ says₂ (decimal_on ws yllcorner 6)
+        pub no_south : decimal_at (words_of (drop e₂ text)) yllcorner 0 ≡ false → head_fits ws ≡ false
+        unfolding head_fits
+        no_south f = rw (says₀, says₁, says₂, sym here₃ ∙ f)
 
-  says₄ : f₄ ≡ (count_at ws ncols 0 && count_at ws nrows 2 && decimal_at ws xllcorner 4 && decimal_at ws yllcorner 6 && decimal_at ws cellsize 8)
-  says₄ = s.says ∙ says_on ws (words_of (drop e₃ text)) f₃ 8 left₃ (λ l. decimal_at l cellsize 0) ∙ ap₂ ◌&&◌ says₃ (decimal_on ws cellsize 8)
+        module _ {south : ℤ} {e₃ : ℕ} (y : MeasuredAt text e₂ yllcorner south e₃) where
+          says₃ : decimal_at ws yllcorner 6 ≡ true
+          says₃ = sym here₃ ∙ y.says
 
-  abbrev no_data_fits : List (List ℕ) → Bool
-  no_data_fits l = not (is_key nodata_value (word l 0)) || is_decimal (word l 1)
+          left₃ : words_of (drop e₃ text) ≡ drop 8 ws
+          left₃ = rest_on ws _ 6 left₂ 2 y.rest
 
-  says₅ : f₅ ≡ head_fits ws
-  unfolding head_fits has_no_data
-  says₅ =
-      l.says
-      ∙ says_on ws (words_of (drop e₄ text)) f₄ 10 left₄ no_data_fits
-      ∙ ap₂ ◌&&◌ says₄ (ap₂ (λ (v w : List ℕ). not (is_key nodata_value v) || is_decimal w) (get_or-drop 10 ws 0 []) (get_or-drop 10 ws 1 []))
+          here₄ : decimal_at (words_of (drop e₃ text)) cellsize 0 ≡ decimal_at ws cellsize 8
+          here₄ = decimal_on ws _ 8 left₃ cellsize
 
-  given_is : f₅ ≡ true → given ≡ has_no_data ws
-  unfolding has_no_data
-  given_is e = l.asked e ∙ ap (is_key nodata_value) (word_on ws (words_of (drop e₄ text)) f₄ 10 left₄ 0 (back₅ e))
+          pub no_side : decimal_at (words_of (drop e₃ text)) cellsize 0 ≡ false → head_fits ws ≡ false
+          unfolding head_fits
+          no_side f = rw (says₀, says₁, says₂, says₃, sym here₄ ∙ f)
 
-  both_places : (t : Bool) → drop (10 + cond t 2 0) ws ≡ drop (cond t 12 10) ws
-  both_places true = refl
-  both_places false = refl
+          module _ {side : ℤ} {e₄ : ℕ} (s : MeasuredAt text e₃ cellsize side e₄) where
+            says₄ : decimal_at ws cellsize 8 ≡ true
+            says₄ = sym here₄ ∙ s.says
 
-  pub headed : Headed text f₅ columns rows minus side given no_data_minus no_data end
-  unfolding columns_in rows_in side_in no_data_in value_words
-  headed = record {
-    within = l.within;
-    says = says₅;
-    columns_are = λ e. c.is (back₁ (back₂ (back₃ (back₄ (back₅ e)))));
-    rows_are = λ e. let g = back₂ (back₃ (back₄ (back₅ e))) in r.is g ∙ ap number_of (word_on ws (words_of (drop e₀ text)) f₀ 2 left₀ 1 (back₁ g));
-    side_is = λ e. let g = back₅ e in s.is g ∙ ap decimal_value (word_on ws (words_of (drop e₃ text)) f₃ 8 left₃ 1 (back₄ g));
-    given_so = given_is;
-    no_data_is = λ e t. l.is e t ∙ ap decimal_value (word_on ws (words_of (drop e₄ text)) f₄ 10 left₄ 1 (back₅ e));
-    values = λ e.
-        rest_on ws (words_of (drop e₄ text)) f₄ 10 left₄ (cond given 2 0) (back₅ e) (l.rest e)
-        ∙ both_places given
-        ∙ ap (λ (t : Bool). drop (cond t 12 10) ws) (given_is e);
-  }
+            left₄ : words_of (drop e₄ text) ≡ drop 10 ws
+            left₄ = rest_on ws _ 8 left₃ 2 s.rest
+
+            here₅ : no_data_fits (words_of (drop e₄ text)) ≡ (not (has_no_data ws) || is_decimal (word ws 11))
+            unfolding has_no_data
+            here₅ = ap₂ (λ (v w : List ℕ). not (is_key nodata_value v) || is_decimal w) (first_is ws _ 10 left₄) (second_is ws _ 10 left₄)
+
+            pub no_value : no_data_fits (words_of (drop e₄ text)) ≡ false → head_fits ws ≡ false
+            unfolding head_fits
+            no_value f = rw (says₀, says₁, says₂, says₃, says₄, sym here₅ ∙ f)
+
+            module _ {no_data : Option ℤ} {end : ℕ} (l : NoDataAt text e₄ no_data end) where
+              says₅ : head_fits ws ≡ true
+              unfolding head_fits
+              says₅ = rw (says₀, says₁, says₂, says₃, says₄, sym here₅ ∙ l.says)
+
+              given_is : is_key nodata_value (word (words_of (drop e₄ text)) 0) ≡ has_no_data ws
+              unfolding has_no_data
+              given_is = ap (is_key nodata_value) (first_is ws _ 10 left₄)
+
+              both_places : (t : Bool) → drop (10 + cond t 2 0) ws ≡ drop (cond t 12 10) ws
+              both_places true = refl
+              both_places false = refl
+
+              pub headed : Headed text columns rows side no_data end
+              unfolding columns_in rows_in side_in no_data_in value_words
+              headed = record {
+                within = l.within;
+                says = says₅;
+                columns_are = c.is;
+                rows_are = r.is ∙ ap number_of (second_is ws _ 2 left₀);
+                side_is = s.is ∙ ap decimal_value (second_is ws _ 8 left₃);
+                no_data_is = l.is ∙ ap₂ (λ (t : Bool) (w : List ℕ). cond t (Some (decimal_value w)) None) given_is (second_is ws _ 10 left₄);
+                values =
+                    rest_on ws _ 10 left₄ (cond (is_key nodata_value (word (words_of (drop e₄ text)) 0)) 2 0) l.rest
+                    ∙ both_places (is_key nodata_value (word (words_of (drop e₄ text)) 0))
+                    ∙ ap (λ (t : Bool). drop (cond t 12 10) ws) given_is;
+              }

@@ -1,3 +1,4 @@
+pub mod Found
 pub mod Words
 pub mod Digits
 pub mod Sizes

@@ -1,8 +1,9 @@
 -- Counts and decimals, from the digits that a loop has read: when a word is one, and its number.
 use Rattle.std.specs.Prelude.{ℕ, zero, suc, ◌+◌, ◌*◌, ◌-◌, ◌^◌, ◌≤◌, ◌<◌, ◌≡◌, refl, Bool, true, false, not, ◌&&◌, ◌||◌, List, [], ◌∷◌, length, get_or, leb, ltb, eqb}
-use Rattle.std.proofs.Common.{sym, ◌∙◌, arith, mul_assoc, add-mul, pow-suc, pow-add, add-one, drop_of_length-le, length-drop, drop-cons, leb→le, eq-eqb, ne_eqb, lt-ltb, le-ltb, le-leb, leb-true, leb-false, eqb-true}
+use Rattle.std.specs.List.{starts_with}
+use Rattle.std.proofs.Common.{sym, ◌∙◌, arith, mul_assoc, add-mul, pow-suc, pow-add, add-one, drop_of_length-le, length-drop, drop-cons, leb→le, eq-eqb, ne_eqb, eqb-true, lt-ltb, le-ltb, le-leb, leb-true, leb-false}
 use Rattle.std.proofs.Math.Path.{ap, ap₂}
-use Rattle.std.proofs.Math.Bool.{and-false}
+use Rattle.std.proofs.Math.Bool.{and-false, and-true}
 use Rattle.std.proofs.Math.Nat.{pow-le-pow_right}
 use Rattle.std.proofs.Math.ListN.{drop}
 use Rattle.std.proofs.lemmas.Bool.{not-true, not-false, eqb-false}
@@ -118,47 +119,57 @@ module _ {word : List ℕ} {at number made end : ℕ} (b : Behind word at number
   behind_it : fraction_fits (drop at word) ≡ digits_fit 6 digits
   behind_it = behind_point word at h (eq-eqb (get_or word at 0) 46 point)
 
-  pub fraction_no : (not (eqb end (length word)) || (eqb places 0 || ltb 6 places)) ≡ true → fraction_fits (drop at word) ≡ false
-  fraction_no e = go (eqb end (length word)) refl
-    where
-      few : (eqb places 0 || ltb 6 places) ≡ true → fraction_fits (drop at word) ≡ false
-      few o = behind_it ∙ no_count 6 digits (ap (within 1 6) (sym long) ∙ is_outside 6 places o)
-
-      go : (t : Bool) → eqb end (length word) ≡ t → fraction_fits (drop at word) ≡ false
-      go true f = few (sym (ap (λ (t : Bool). not t || (eqb places 0 || ltb 6 places)) f) ∙ e)
-      go false f = behind_it ∙ no_digits 6 digits (not_all d (eqb-false end (length word) f))
-
-  module _ (e : (not (eqb end (length word)) || (eqb places 0 || ltb 6 places)) ≡ false) where
-    ends : end ≡ length word
-    ends = go (eqb end (length word)) refl
+  module _ (some : Bool) (is : some ≡ within 1 6 places) where
+    pub fraction_no : (not (eqb end (length word)) || not some) ≡ true → fraction_fits (drop at word) ≡ false
+    fraction_no e = go (eqb end (length word)) refl
       where
-        go : (t : Bool) → eqb end (length word) ≡ t → end ≡ length word
-        go true f = eqb-true end (length word) f
-        go false f = absurd (to_T (sym (sym (ap (λ (t : Bool). not t || (eqb places 0 || ltb 6 places)) f) ∙ e)))
+        go : (t : Bool) → eqb end (length word) ≡ t → fraction_fits (drop at word) ≡ false
+        go true f =
+            behind_it
+            ∙ no_count 6 digits (ap (within 1 6) (sym long) ∙ sym is ∙ not-true some (sym (ap (λ (t : Bool). not t || not some) f) ∙ e))
+        go false f = behind_it ∙ no_digits 6 digits (not_all d (eqb-false end (length word) f))
 
-    six : within 1 6 places ≡ true
-    six = is_within 6 places (sym (ap (λ (t : Bool). not t || (eqb places 0 || ltb 6 places)) (eq-eqb end (length word) ends)) ∙ e)
+    module _ (e : (not (eqb end (length word)) || not some) ≡ false) where
+      ends : end ≡ length word
+      ends = go (eqb end (length word)) refl
+        where
+          go : (t : Bool) → eqb end (length word) ≡ t → end ≡ length word
+          go true f = eqb-true end (length word) f
+          go false f = absurd (to_T (sym (sym (ap (λ (t : Bool). not t || not some) f) ∙ e)))
 
-    pub fraction_yes : fraction_fits (drop at word) ≡ true
-    fraction_yes = behind_it ∙ is_count 6 digits (ap (within 1 6) (sym long) ∙ six) (all_there d ends)
+      six : within 1 6 places ≡ true
+      six = sym is ∙ not-false some (sym (ap (λ (t : Bool). not t || not some) (eq-eqb end (length word) ends)) ∙ e)
 
-    pub places_few : places ≤ 6
-    places_few = within_high 6 places six
+      pub fraction_yes : fraction_fits (drop at word) ≡ true
+      fraction_yes = behind_it ∙ is_count 6 digits (ap (within 1 6) (sym long) ∙ six) (all_there d ends)
 
-    pub made_small : made < 10 ^ (13 + places)
-    made_small =
-        let few = b.few in
-        let small = d.small in
-        let up : 10 ^ end ≤ 10 ^ (13 + places) = pow-le-pow_right {n = 10} (omega arith) {i = end} {j = 13 + places} (omega (arith, ends)) in
-        omega arith
+      pub places_few : places ≤ 6
+      places_few = within_high 6 places six
 
-    pub fraction_size : made * 10 ^ (6 - places) ≡ number * 1000000 + fraction (drop at word)
-    fraction_size =
-        ap (λ (m : ℕ). m * 10 ^ (6 - places)) (all_made d ends)
-        ∙ scaled_up number places digits places_few long
-        ∙ ap (λ (m : ℕ). number * 1000000 + m) (ap (λ (k : ℕ). number_of digits * 10 ^ (6 - k)) long ∙ sym (fraction_is word at h))
+      pub made_small : made < 10 ^ (13 + places)
+      made_small =
+          let few = b.few in
+          let small = d.small in
+          let up : 10 ^ end ≤ 10 ^ (13 + places) = pow-le-pow_right {n = 10} (omega arith) {i = end} {j = 13 + places} (omega (arith, ends)) in
+          omega arith
+
+      pub fraction_size : made * 10 ^ (6 - places) ≡ number * 1000000 + fraction (drop at word)
+      fraction_size =
+          ap (λ (m : ℕ). m * 10 ^ (6 - places)) (all_made d ends)
+          ∙ scaled_up number places digits places_few long
+          ∙ ap (λ (m : ℕ). number * 1000000 + m) (ap (λ (k : ℕ). number_of digits * 10 ^ (6 - k)) long ∙ sym (fraction_is word at h))
 
 -- ---- A decimal without its sign
+
+pub minus_none : (w : List ℕ) → length w ≡ 0 → false ≡ is_minus w
+unfolding is_minus
+minus_none [] e = refl
+minus_none (b ∷ bs) e = absurd (omega arith)
+
+pub minus_first : (w : List ℕ) → (length w ≡ 0 → ⊥) → eqb (get_or w 0 0) 45 ≡ is_minus w
+unfolding is_minus
+minus_first [] e = absurd (e refl)
+minus_first (b ∷ bs) e = refl
 
 fraction_short : (l : List ℕ) → fraction_fits l ≡ true → length l ≤ 7
 unfolding fraction_fits digits_fit
@@ -203,15 +214,14 @@ module _ (w : List ℕ) {made end : ℕ} (d : DigitsFrom w 0 0 made end) where
 
 -- ---- A decimal
 
-pub minus_none : (w : List ℕ) → length w ≡ 0 → false ≡ is_minus w
+pub minus_in_front : (w : List ℕ) → starts_with eqb w (45 ∷ []) ≡ is_minus w
 unfolding is_minus
-minus_none [] e = refl
-minus_none (b ∷ bs) e = absurd (omega arith)
-
-pub minus_first : (w : List ℕ) → (length w ≡ 0 → ⊥) → eqb (get_or w 0 0) 45 ≡ is_minus w
-unfolding is_minus
-minus_first [] e = absurd (e refl)
-minus_first (b ∷ bs) e = refl
+minus_in_front [] = refl
+minus_in_front (b ∷ bs) = and-true (eqb 45 b) ∙ go (eqb 45 b) refl
+  where
+    go : (t : Bool) → eqb 45 b ≡ t → eqb 45 b ≡ eqb b 45
+    go true e = e ∙ sym (eq-eqb b 45 (sym (eqb-true 45 b e)))
+    go false e = e ∙ sym (ne_eqb b 45 (λ f. eqb-false 45 b e (sym f)))
 
 pub minus_some : (w : List ℕ) → is_minus w ≡ true → 0 < length w
 unfolding is_minus

@@ -1,10 +1,14 @@
 -- The words of a text, met from a place on: what is passed over before the next word, and that word with those behind it.
-use Rattle.std.specs.Prelude.{ℕ, suc, ◌+◌, ◌-◌, ◌≤◌, ◌<◌, ◌≡◌, refl, true, false, length, get_or, drop}
-use Rattle.std.proofs.Common.{sym, ◌∙◌, add-one, drop_of_length-le, length-drop, drop-cons, take-suc, get_or-drop, length-take-le}
+use Rattle.std.specs.Prelude.{ℕ, zero, suc, Bool, not, ◌+◌, ◌-◌, ◌≤◌, ◌<◌, ◌≡◌, refl, true, false, length, get_or, drop, ltb}
+use Rattle.std.specs.List.{prefix_len, take_while}
+use Rattle.std.proofs.Common.{sym, ◌∙◌, subst, add-zero, add-one, ltb-true, ltb-false, drop_of_length-le, length-drop, drop-cons, take-suc, get_or-drop, length-take-le}
 use Rattle.std.proofs.Math.Path.{ap}
 use mathlib.Core.List.{List, [], ◌∷◌, ◌++◌}
 use native.Mathlib.Omega.{arith}
 use Rattle.std.proofs.Math.ListN.{take}
+use Rattle.std.proofs.lemmas.Bool.{not-true, not-false}
+use Rattle.std.proofs.lemmas.List.Folds.{length-prefix_len}
+use Rattle.std.proofs.lemmas.List.Sums.{prefix_len-drop_yes, prefix_len-le-length, prefix_len_passes, prefix_len_stops}
 use Rattle.rules.specs.Raster.{parts_words, ended, words_behind, words_of, word}
 
 -- ---- What is passed over before a word
@@ -16,7 +20,7 @@ pub record Skipped (text : List ℕ) (at start : ℕ) : Type 0 where
   pub words : words_of (drop start text) ≡ words_of (drop at text)
   pub begins : start < length text → parts_words (get_or text start 0) ≡ false
 
--- a loop that passes over bytes, up to i
+-- the bytes up to i are passed over
 pub record Skipping (text : List ℕ) (at i : ℕ) : Type 0 where
   pub from : at ≤ i
   pub within : i ≤ length text
@@ -69,7 +73,7 @@ pub record Word (text : List ℕ) (at end : ℕ) : Type 0 where
   pub within : end ≤ length text
   pub words : words_of (drop at text) ≡ between text at end ∷ words_of (drop end text)
 
--- a loop over a word's bytes, up to i
+-- the bytes up to i are a word's
 pub record Spelling (text : List ℕ) (at i : ℕ) : Type 0 where
   pub behind : at < i
   pub within : i ≤ length text
@@ -161,6 +165,70 @@ module _ {text : List ℕ} {at : ℕ} where
             ∙ word_ends_last (between text at i) (omega (arith, length_between text at i s.within))
             ∙ ap (λ (l : List ℕ). between text at i ∷ words_of l) (sym (drop_of_length-le text h));
       }
+
+-- ---- Both, by how many bytes at the front part words, or do not
+
+-- so many bytes from a place on pass a test
+module _ (test : ℕ → Bool) (text : List ℕ) (at : ℕ) where
+  abbrev front : ℕ
+  front = prefix_len test (drop at text)
+
+  front_within : at ≤ length text → at + front ≤ length text
+  front_within h = omega (arith, prefix_len-le-length test (drop at text), length-drop at text)
+
+  front_passes : (k : ℕ) → k < front → test (get_or text (at + k) 0) ≡ true
+  front_passes k h = sym (ap test (get_or-drop at text k 0)) ∙ prefix_len_passes test (drop at text) k 0 h
+
+  front_stops : at + front < length text → test (get_or text (at + front) 0) ≡ false
+  front_stops h = sym (ap test (get_or-drop at text front 0)) ∙ prefix_len_stops test (drop at text) 0 (omega (arith, length-drop at text))
+
+module _ (text : List ℕ) (at : ℕ) (h : at ≤ length text) where
+  skip_front : (k : ℕ) → k ≤ front parts_words text at → Skipping text at (at + k)
+  skip_front zero l = subst (Skipping text at) (sym (add-zero at)) (record { from = omega arith; within = h; words = refl })
+  skip_front (suc k) l =
+      subst (Skipping text at) (let e : at + k + 1 ≡ at + suc k = omega arith in e)
+      (skip_more (skip_front k (omega arith)) (omega (arith, front_within parts_words text at h)) (front_passes parts_words text at k (omega arith)))
+
+  pub skip_over : {n : ℕ} → n ≡ length (take_while parts_words (drop at text)) → Skipped text at (at + n)
+  skip_over {n} e =
+      let s = skip_front (front parts_words text at) (omega arith) in
+      subst (λ (k : ℕ). Skipped text at (at + k)) (sym (e ∙ length-prefix_len parts_words (drop at text)))
+      (record { from = s.from; within = s.within; words = s.words; begins = front_stops parts_words text at })
+
+module _ (text : List ℕ) (at : ℕ) (w : WordAt text at) where
+  abbrev spells : ℕ → Bool
+  spells b = not (parts_words b)
+
+  parts_not : (b : ℕ) → spells b ≡ true → parts_words b ≡ false
+  parts_not b e = not-true (parts_words b) e
+
+  parts_yes : (b : ℕ) → spells b ≡ false → parts_words b ≡ true
+  parts_yes b e = not-false (parts_words b) e
+
+  spell_front : (k : ℕ) → k < front spells text at → Spelling text at (at + suc k)
+  spell_front zero l = spell_one w
+  spell_front (suc k) l =
+      let inside = w.inside in
+      subst (Spelling text at) (let e : at + suc k + 1 ≡ at + suc (suc k) = omega arith in e)
+      (spell_more (spell_front k (omega arith)) (omega (arith, front_within spells text at (omega arith))) (parts_not _ (front_passes spells text at (suc k) l)))
+
+  spell_all_front : (k : ℕ) → front spells text at ≡ suc k → Word text at (at + suc k)
+  spell_all_front k e = go (ltb (at + suc k) (length text)) refl
+    where
+      s : Spelling text at (at + suc k)
+      s = spell_front k (omega arith)
+
+      go : (t : Bool) → ltb (at + suc k) (length text) ≡ t → Word text at (at + suc k)
+      go true l =
+          let inside = ltb-true (at + suc k) (length text) l in
+          spell_stop s inside (subst (λ (n : ℕ). parts_words (get_or text (at + n) 0) ≡ true) e (parts_yes _ (front_stops spells text at (omega (arith, e)))))
+      go false l = spell_all s (ltb-false (at + suc k) (length text) l)
+
+  pub spell_out : {n : ℕ} → n ≡ length (take_while spells (drop at text)) → Word text at (at + n)
+  spell_out {n} e =
+      let some = prefix_len-drop_yes spells text at 0 w.inside (ap not w.begins) in
+      let all : front spells text at ≡ suc (prefix_len spells (drop (at + 1) text)) = omega (arith, some) in
+      subst (λ (k : ℕ). Word text at (at + k)) (sym (e ∙ length-prefix_len spells (drop at text) ∙ all)) (spell_all_front (prefix_len spells (drop (at + 1) text)) all)
 
 -- ---- The first word from a place on, and those behind it
 

@@ -1,81 +1,78 @@
-// The reader's number: 10 first, then 1, 2 and 3.
-ghost use Rattle.std.specs.Prelude.{◌≡◌, cond, ◌&&◌, pos};
+// The reader's refusal: 10 first, then 1, 2 and 3.
+ghost use Rattle.std.specs.Prelude.{◌≡◌, cond, ◌&&◌, pos, MatchResult};
 ghost use Rattle.std.specs.Int.Signed.{le_z};
 ghost use Rattle.rules.specs.Site.{within, first_of};
-ghost use Rattle.rules.specs.Raster.{signed};
+ghost use Rattle.rules.specs.Refusals.{refusal_number, outcome_number};
+ghost use Rattle.rules.specs.Raster.{raster_number};
+ghost use Rattle.decimals.specs.Values.{value_of};
 ghost use Rattle.raster_laws.specs.Decisions.{Decided};
 
 use crate::{product, values};
+use decimals::Decimal;
+use rules::{Refusal, Survey};
 
-// The number; where it is 0, columns, rows and side, and where the values begin, and otherwise 0 for each.
-#[derive(Clone, Copy)]
+// Of a text that passes: columns, rows and side, and where the values begin.
+#[derive(Clone, Copy, Debug, PartialEq, Eq)]
 pub struct Decision {
-    pub number: u32,
-    pub columns: u32,
-    pub rows: u32,
-    pub side: u32,
+    pub survey: Survey,
     pub at: usize,
 }
 
-// Whether columns, rows and side lie in their ranges.
-fn sizes_fit(columns: u64, rows: u64, minus: bool, side: u64) -> bool
-    ensures { result ≡ (within 1 128 columns && within 1 128 rows && (le_z (pos 100000) (signed minus side) && le_z (signed minus side) (pos 20000000))) }
+// The definition's word, with std's method inside; one for each type.
+fn within(low: u64, high: u64, n: u64) -> bool
+    ensures { result ≡ within low high n }
 {
-    let wide = (1 <= columns) & (columns <= 128);
-    let high = (1 <= rows) & (rows <= 128);
-    wide & high & (!minus & ((100000 <= side) & (side <= 20000000)))
+    (low..=high).contains(&n)
 }
 
-fn number_of(raster: bool, sizes: bool, lengths: bool, values: bool) -> u32
-    ensures { result ≡ cond raster (first_of sizes lengths values) 10 }
+// Whether columns, rows and side lie in their ranges.
+fn sizes_fit(columns: u64, rows: u64, side: Decimal) -> bool
+    ensures { result ≡ (within 1 128 columns && within 1 128 rows && (le_z (pos 100000) (value_of side) && le_z (value_of side) (pos 20000000))) }
+{
+    let wide = within(1, 128, columns);
+    let high = within(1, 128, rows);
+    wide & high & (!side.minus & within(100000, 20000000, side.size))
+}
+
+// The first test that fails.
+fn check(raster: bool, sizes: bool, lengths: bool, values: bool) -> Result<(), Refusal>
+    ensures { outcome_number result ≡ cond raster (first_of sizes lengths values) 10 }
 {
     if !raster {
-        return 10;
+        return Err(Refusal::Raster);
     }
     if !sizes {
-        return 1;
+        return Err(Refusal::Card);
     }
     if !lengths {
-        return 2;
+        return Err(Refusal::Length);
     }
     if !values {
-        return 3;
+        return Err(Refusal::Value);
     }
-    0
+    Ok(())
 }
 
-fn refused(number: u32) -> Decision
-    ensures { result ≡ record { number = number; columns = 0; rows = 0; side = 0; at = 0 } }
+// What a text says for a lent list of n words.
+pub fn decide(text: &[u8], n: usize) -> Result<Decision, Refusal>
+    ensures { MatchResult result (λ found. Decided text.now n found.survey.columns found.survey.rows found.survey.side found.at) (λ refusal. refusal_number refusal ≡ raster_number text.now n) }
 {
-    Decision {
-        number,
-        columns: 0,
-        rows: 0,
-        side: 0,
-        at: 0,
-    }
-}
-
-// The number of a text for a lent list of n words.
-pub fn decide(text: &[u8], n: usize) -> Decision
-    ensures { Decided text.now n result.number result.columns result.rows result.side result.at }
-{
-    let head = raster_head::head_in(text);
-    if !head.fits {
-        return refused(10);
-    }
-    let look = values::look_over(text, head.end, head.given, head.no_data_minus, head.no_data);
+    let Some(head) = raster_head::head_in(text) else {
+        return Err(Refusal::Raster);
+    };
+    let Some(look) = values::look_over(text, head.end, head.no_data) else {
+        return Err(Refusal::Raster);
+    };
     let counts = product::is_product(look.count as u64, head.columns, head.rows);
-    let sizes = sizes_fit(head.columns, head.rows, head.minus, head.side);
-    let number = number_of(look.decimals & counts, sizes, n == look.count, look.fit);
-    if number != 0 {
-        return refused(number);
-    }
-    Decision {
-        number: 0,
+    let sizes = sizes_fit(head.columns, head.rows, head.side);
+    check(counts, sizes, n == look.count, look.fit)?;
+    let survey = Survey {
         columns: head.columns as u32,
         rows: head.rows as u32,
-        side: head.side as u32,
+        side: head.side.size as u32,
+    };
+    Ok(Decision {
+        survey,
         at: head.end,
-    }
+    })
 }

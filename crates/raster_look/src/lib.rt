@@ -1,4 +1,4 @@
-// The look over a raster's text that decides: its number, and what its keys say. Nothing is written.
+// The look over a raster's text that decides: its refusal, or what its keys say. Nothing is written.
 #![tactic(auto)]
 
 mod decisions;

@@ -1,17 +1,20 @@
 // The values of a raster that passes, read into a list: a raster has the northern row first, and a site the southern one.
 ghost use Rattle.std.specs.Prelude.{◌≡◌, map, ◌+◌, ◌*◌, ◌≤◌, ◌<◌, length, drop, take};
-ghost use Rattle.rules.specs.Raster.{words_of, decimal_value, signed, raster_ground};
+ghost use Rattle.rules.specs.Raster.{words_of, decimal_value, raster_ground};
+ghost use Rattle.decimals.specs.Values.{value_of};
 ghost use Rattle.raster_laws.specs.Decisions.{Passes};
 ghost use Rattle.raster_laws.specs.Filled.{Readable, Left};
 
+use decimals::Decimal;
+
 // A value as a word.
-fn value_of(minus: bool, size: u64) -> i32
-    requires { size ≤ 50000000 }
-    ensures { result ≡ signed minus size }
+fn value_of(value: Decimal) -> i32
+    requires { value.size ≤ 50000000 }
+    ensures { result ≡ value_of value }
 {
-    let z = size as i32;
-    if minus {
-        return 0 - z;
+    let z = value.size as i32;
+    if value.minus {
+        return -z;
     }
     z
 }
@@ -23,11 +26,11 @@ fn fill_row(text: &[u8], at: usize, row: &mut [i32]) -> usize
     ensures left { Left text.now at (length row.old) result }
 {
     let mut p = at;
-    for i in 0..row.len() {
+    for cell in row {
         let start = text_words::word_start(text, p);
         let end = text_words::word_end(text, start);
-        let value = decimals::decimal_in(&text[start..end]);
-        row[i] = value_of(value.minus, value.size);
+        let value = decimals::decimal_in(&text[start..end]).unwrap();
+        *cell = value_of(value);
         p = end;
     }
     p
@@ -41,7 +44,7 @@ fn row_start(row: usize, wide: usize, high: usize) -> usize
     row * wide
 }
 
-// All values, from `at` on: the northern row is the last of the list.
+// All values, from `at` on: the northern row is the last of the list. No `chunks_exact_mut(wide).rev()`: it asks that no row is empty, which `Passes` does not say.
 pub fn fill(text: &[u8], at: usize, columns: u32, rows: u32, land: &mut [i32])
     requires { Passes text.now (length land.old) columns rows at }
     ensures { land.new ≡ raster_ground (words_of text.now) }

@@ -1,21 +1,21 @@
-// The reader: the number first, and then what is left with it.
+// The reader: what the text says first, and then what is left with it.
+ghost use Rattle.rules.specs.Answers.{raster_of};
 ghost use Rattle.rules.specs.PublicContracts.{ReadRasterContract};
 
 use crate::fills;
-use rules::Raster;
+use rules::{Refusal, Survey};
 
 // The ground of a raster.
-pub fn read_raster(text: &[u8], land: &mut [i32]) -> Raster
-    ensures { ReadRasterContract text.now land.old result land.new }
+pub fn read_raster(text: &[u8], land: &mut [i32]) -> Result<Survey, Refusal>
+    ensures { ReadRasterContract text.now land.old (raster_of result) land.new }
 {
-    let found = raster_look::decide(text, land.len());
-    if found.number == 0 {
-        fills::fill(text, found.at, found.columns, found.rows, land);
-    }
-    Raster {
-        number: found.number,
-        columns: found.columns,
-        rows: found.rows,
-        side: found.side,
-    }
+    let found = raster_look::decide(text, land.len())?;
+    fills::fill(
+        text,
+        found.at,
+        found.survey.columns,
+        found.survey.rows,
+        land,
+    );
+    Ok(found.survey)
 }

@@ -34,6 +34,7 @@ fn put_row(card: Card, land: &[i32], j: usize, out: &mut [u8], at: usize) -> usi
 {
     let columns = card.columns as usize;
     let mut end = at;
+    // By column, the number that a cell's place takes.
     for i in 0..columns {
         end = put_cell(card, land, i, j, out, end);
     }
@@ -46,6 +47,7 @@ pub fn put_values(card: Card, land: &[i32], out: &mut [u8], at: usize) -> usize
 {
     let rows = card.rows as usize;
     let mut end = at;
+    // By row, the northern one first.
     for n in 0..rows {
         end = put_row(card, land, rows - 1 - n, out, end);
     }

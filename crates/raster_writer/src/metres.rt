@@ -29,7 +29,7 @@ pub fn value_size(z: i32) -> usize
     size
 }
 
-// The whole metres, below 100.
+// The whole metres, below 100. By hand: `append_decimal` asks for room for ten digits, and the last value has just its own.
 fn put_whole(n: u32, out: &mut [u8], at: usize) -> usize
     requires { (n < 100) × (at + length (decimal n) ≤ length out.old) }
     ensures { Appended (decimal n) at result out.old out.new }

@@ -1,4 +1,5 @@
 // How long the text of the values is.
+// Not one with lines.rt: a function over both needs a trait of what is done at a cell, its laws and two impls, for loops of one line each. The loops are no chains: each sum has its own bound.
 ghost use Rattle.std.specs.Prelude.{◌≡◌, ◌*◌, ◌≤◌, length};
 ghost use Rattle.raster_writer.specs.Lines.{cell_text, row_text, row_texts, Checked, Row, Cell};
 

@@ -1,12 +1,14 @@
 // The words of a text: where the next one begins, and where it ends.
 #![tactic(auto)]
 
-ghost use Rattle.std.specs.Prelude.{◌≡◌, ◌≤◌, length};
+ghost use Rattle.std.specs.Prelude.{◌≡◌, ◌≤◌, not, length};
+ghost use Rattle.std.specs.List.{take_while};
 ghost use Rattle.rules.specs.Raster.{parts_words};
 ghost use Rattle.raster_laws.specs.Words.{Skipped, WordAt, Word, Next};
 
-// A word's bytes: from `start` up to `end`. Where there is no word, both are the end of the text.
-#[derive(Clone, Copy)]
+// A word's bytes: from `start` up to `end`. Where there is no word, both are the end of the text: no Option, since a word that is not there is the empty one,
+// which is no key and no number.
+#[derive(Clone, Copy, Debug, PartialEq, Eq)]
 pub struct Span {
     pub start: usize,
     pub end: usize,
@@ -19,19 +21,26 @@ fn parts_words(b: u8) -> bool
     (b == 32) | (b == 9) | (b == 10) | (b == 13)
 }
 
+// How many bytes in front part words.
+fn parting(text: &[u8]) -> usize
+    ensures { result ≡ length (take_while parts_words text.now) }
+{
+    text.iter().take_while(|b| parts_words(**b)).count()
+}
+
+// How many bytes in front are a word's.
+fn spelling(text: &[u8]) -> usize
+    ensures { result ≡ length (take_while (λ b. not (parts_words b)) text.now) }
+{
+    text.iter().take_while(|b| !parts_words(**b)).count()
+}
+
 // Where the first word from `at` on begins; the end of the text where there is none.
 pub fn word_start(text: &[u8], at: usize) -> usize
     requires { at ≤ length text.now }
     ensures { Skipped text.now at result }
 {
-    let mut i = at;
-    while i < text.len() {
-        if !parts_words(text[i]) {
-            return i;
-        }
-        i += 1;
-    }
-    i
+    at + parting(&text[at..])
 }
 
 // Where the word ends that begins at `at`.
@@ -39,14 +48,7 @@ pub fn word_end(text: &[u8], at: usize) -> usize
     requires { WordAt text.now at }
     ensures { Word text.now at result }
 {
-    let mut i = at + 1;
-    while i < text.len() {
-        if parts_words(text[i]) {
-            return i;
-        }
-        i += 1;
-    }
-    i
+    at + spelling(&text[at..])
 }
 
 // The first word from `at` on.

@@ -1,15 +1,16 @@
-use mathlib.Core.Path.{sym, ◌∙◌}
-use Rattle.raster_laws.specs.Words.{spell_one, spell_more, spell_stop, spell_all}
+-- `word_end`: a word goes on as long as no byte parts it from the next.
+use mathlib.Core.Path.{ap, ◌∙◌}
+use mathlib.Core.Bool.{not}
+use mathlib.Core.List.{List}
+use Prim.Native.Nat.{ℕ}
+use lib.ListN.{length}
+use Rattle.std.specs.List.{take_while}
+use Rattle.rules.specs.Raster.{parts_words}
+use Rattle.laws.specs.Parts.{back_is}
+use Rattle.raster_laws.specs.Words.{spell_out}
 use Rattle.text_words.proofs.word_end.Goals as goal
 
-pub loop-i-init : goal.loop-i-init
-loop-i-init c = spell_one c.requires
-
-pub returns-then-parts_words : goal.returns-then-parts_words
-returns-then-parts_words c = spell_stop c.loop-i.invariant c.loop-i-test.true (sym c.parts_words.ensures ∙ c.if-parts_words.true)
-
-pub loop-i-preserved : goal.loop-i-preserved
-loop-i-preserved c = spell_more c.loop-i.invariant c.loop-i-test.true (sym c.parts_words.ensures ∙ c.if-parts_words.false)
-
 pub returns : goal.returns
-returns c = spell_all c.loop-i.invariant c.loop-i-test.false
+returns c =
+    let s = c.args in
+    spell_out s.text.now s.at c.requires (c.spelling.ensures ∙ ap (λ (l : List ℕ). length (take_while (λ (b : ℕ). not (parts_words b)) l)) (back_is s.at s.text.now))

@@ -1,15 +1,13 @@
-use mathlib.Core.Path.{sym, ◌∙◌}
-use Rattle.raster_laws.specs.Words.{skip_none, skip_more, skip_stop, skip_all}
+-- `word_start`: what is passed over has no word.
+use mathlib.Core.Path.{ap, ◌∙◌}
+use mathlib.Core.List.{List}
+use Prim.Native.Nat.{ℕ}
+use lib.ListN.{length}
+use Rattle.std.specs.List.{take_while}
+use Rattle.rules.specs.Raster.{parts_words}
+use Rattle.laws.specs.Parts.{back_is}
+use Rattle.raster_laws.specs.Words.{skip_over}
 use Rattle.text_words.proofs.word_start.Goals as goal
 
-pub loop-i-init : goal.loop-i-init
-loop-i-init c = skip_none c.requires
-
-pub returns-then-not-parts_words : goal.returns-then-not-parts_words
-returns-then-not-parts_words c = skip_stop c.loop-i.invariant (sym c.parts_words.ensures ∙ c.if-not-parts_words.true)
-
-pub loop-i-preserved : goal.loop-i-preserved
-loop-i-preserved c = skip_more c.loop-i.invariant c.loop-i-test.true (sym c.parts_words.ensures ∙ c.if-not-parts_words.false)
-
 pub returns : goal.returns
-returns c = skip_all c.loop-i.invariant c.loop-i-test.false
+returns c = let s = c.args in skip_over s.text.now s.at c.requires (c.parting.ensures ∙ ap (λ (l : List ℕ). length (take_while parts_words l)) (back_is s.at s.text.now))

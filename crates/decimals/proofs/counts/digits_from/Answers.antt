@@ -1,6 +1,6 @@
 use mathlib.Core.Path.{refl, sym, ◌∙◌}
 use native.Mathlib.Omega.{arith}
-use Rattle.raster_laws.specs.Digits.{read_none, read_more, read_stop, read_all, digit_low, read_fits}
+use Rattle.raster_laws.specs.Digits.{read_none, read_more, read_stop, read_all, read_fits}
 use Rattle.decimals.proofs.counts.digits_from.Goals as goal
 
 pub loop-i-init : goal.loop-i-init
@@ -12,17 +12,11 @@ returns-then-not-is_digit c = read_stop c.loop-i.invariant c.loop-i-test.true re
 pub overflow_mul-n : goal.overflow_mul-n
 overflow_mul-n c = omega (arith, read_fits c.loop-i.invariant c.loop-i-test.true c.requires.short refl (sym c.is_digit.ensures ∙ c.if-not-is_digit.false))
 
-pub overflow_sub-n : goal.overflow_sub-n
-overflow_sub-n c = digit_low _ (sym c.is_digit.ensures ∙ c.if-not-is_digit.false)
-
-pub overflow_cast-n : goal.overflow_cast-n
-overflow_cast-n c = omega (arith, read_fits c.loop-i.invariant c.loop-i-test.true c.requires.short refl (sym c.is_digit.ensures ∙ c.if-not-is_digit.false))
-
 pub overflow_add-n : goal.overflow_add-n
 overflow_add-n c = omega (arith, read_fits c.loop-i.invariant c.loop-i-test.true c.requires.short refl (sym c.is_digit.ensures ∙ c.if-not-is_digit.false))
 
 pub loop-i-preserved : goal.loop-i-preserved
-loop-i-preserved c = read_more c.loop-i.invariant c.loop-i-test.true refl (sym c.is_digit.ensures ∙ c.if-not-is_digit.false)
+loop-i-preserved c = rw c.from.ensures (read_more c.loop-i.invariant c.loop-i-test.true refl (sym c.is_digit.ensures ∙ c.if-not-is_digit.false))
 
 pub returns : goal.returns
 returns c = read_all c.loop-i.invariant c.loop-i-test.false

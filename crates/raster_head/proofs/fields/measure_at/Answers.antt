@@ -1,10 +1,14 @@
 -- `measure_at`: a key, and behind it a decimal.
-use borrow.Author.Tests.{not-true, not-false}
-use Rattle.raster_laws.specs.Fields.{measure_none, measure_some}
+use Rattle.raster_laws.specs.Fields.{measure_not, measure_none, measure_some}
+use Rattle.raster_laws.specs.Found.{has_passed, has_failed}
+use Rattle.decimals.specs.Values.{value_is}
 use Rattle.raster_head.proofs.fields.measure_at.Goals as goal
 
-pub returns-then-not-value : goal.returns-then-not-value
-returns-then-not-value c = measure_none c.name_at-value.ensures (not-true _ c.if-not-value.true)
+pub returns-in_err-word : goal.returns-in_err-word
+returns-in_err-word c = rw c.from_residual.ensures (measure_not c.args.text.now c.args.at c.args.key.now c.in_err-word.ensures)
+
+pub returns-in_err-decimal_in : goal.returns-in_err-decimal_in
+returns-in_err-decimal_in c = rw c.from_residual-in_err-decimal_in.ensures (measure_none c.in_ok-word.ensures (has_failed _ _ c.in_err-decimal_in.ensures))
 
 pub returns : goal.returns
-returns c = measure_some c.name_at-value.ensures (not-false _ c.if-not-value.false) c.decimal_in-decimal.ensures.fits c.decimal_in-decimal.ensures.minus c.decimal_in-decimal.ensures.size
+returns c = let e = c.in_ok-decimal_in.ensures in measure_some c.in_ok-word.ensures (has_passed _ _ e) (value_is _ e)

@@ -1,13 +1,10 @@
 -- `name_at`: the word behind a key that stands there.
 use mathlib.Core.Path.{sym, ◌∙◌}
-use Rattle.raster_laws.specs.Fields.{not_asked, not_named, is_named}
+use Rattle.raster_laws.specs.Fields.{not_named, is_named}
 use Rattle.raster_head.proofs.fields.name_at.Goals as goal
 
-pub returns-then-not-ok : goal.returns-then-not-ok
-returns-then-not-ok c = not_asked c.if-not-ok.true c.requires
-
 pub returns-then-not-is_key : goal.returns-then-not-is_key
-returns-then-not-is_key c = not_named c.if-not-ok.false c.requires c.next_word-name.ensures (sym c.is_key.ensures ∙ c.if-not-is_key.true)
+returns-then-not-is_key c = not_named c.args.key.now c.next_word-name.ensures (sym c.is_key.ensures ∙ c.if-not-is_key.true)
 
 pub returns : goal.returns
-returns c = is_named c.if-not-ok.false c.next_word-name.ensures (sym c.is_key.ensures ∙ c.if-not-is_key.false) c.next_word-value.ensures
+returns c = is_named c.args.key.now c.next_word-name.ensures (sym c.is_key.ensures ∙ c.if-not-is_key.false) c.next_word-value.ensures

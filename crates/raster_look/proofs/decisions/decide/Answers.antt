@@ -1,25 +1,46 @@
--- `decide`: the number of what was looked at.
-use mathlib.Core.Path.{sym, ◌∙◌}
+-- `decide`: the refusal of what was looked at.
+use mathlib.Core.Path.{◌≡◌, sym}
 use native.Mathlib.Omega.{arith}
-use native.Mathlib.Nat.{suc-ne-zero}
-use borrow.Author.Tests.{not-true, not-false}
-use Rattle.raster_laws.specs.Decisions.{decided_refused, no_head, number_is, passed, side_small, decided}
+use Rattle.std.proofs.Common.{rules, Err}
+use Rattle.raster_laws.specs.Looks.{size_signed}
+use Rattle.raster_laws.specs.Decisions.{no_head, no_values, number_is, passed, side_small, decided}
 use Rattle.raster_look.proofs.decisions.decide.Goals as goal
 
-pub returns-then-not-head : goal.returns-then-not-head
-returns-then-not-head c = rw c.refused.ensures (decided_refused c.args.text.now c.args.n 10 0 (no_head c.args.text.now c.args.n (sym c.head_in-head.ensures.says ∙ not-true _ c.if-not-head.true)) (suc-ne-zero 9))
+pub returns-in_default : goal.returns-in_default
+returns-in_default c = no_head c.args.text.now c.args.n c.in_default.ensures
 
-pub returns-then-number-ne0 : goal.returns-then-number-ne0
-returns-then-number-ne0 c = rw c.refused-then-number-ne0.ensures (decided_refused c.args.text.now c.args.n _ 0 (number_is c.head_in-head.ensures c.look_over-look.ensures (not-false _ c.if-not-head.false) c.args.n c.sizes_fit-sizes.ensures c.is_product-counts.ensures c.number_of-number.ensures) c.if-number-ne0.true)
+pub returns-in_default-look_over : goal.returns-in_default-look_over
+returns-in_default-look_over c = no_values c.in-Some.ensures c.args.n c.in_default-look_over.ensures
 
-pub overflow_cast-result : goal.overflow_cast-result
-overflow_cast-result c = omega (arith, (passed c.head_in-head.ensures c.look_over-look.ensures (not-false _ c.if-not-head.false) c.args.n (sym (number_is c.head_in-head.ensures c.look_over-look.ensures (not-false _ c.if-not-head.false) c.args.n c.sizes_fit-sizes.ensures c.is_product-counts.ensures c.number_of-number.ensures) ∙ c.if-number-ne0.false)).wide)
+pub returns-in_err-check : goal.returns-in_err-check
+returns-in_err-check c =
+    let same : c.from_residual.result ≡ Err c.in_err-check.field-0.0 = search rules in
+    rw same (number_is c.in-Some.ensures c.in-Some-look_over.ensures c.args.n c.sizes_fit-sizes.ensures c.is_product-counts.ensures c.in_err-check.ensures)
 
-pub overflow_cast-result-2 : goal.overflow_cast-result-2
-overflow_cast-result-2 c = omega (arith, (passed c.head_in-head.ensures c.look_over-look.ensures (not-false _ c.if-not-head.false) c.args.n (sym (number_is c.head_in-head.ensures c.look_over-look.ensures (not-false _ c.if-not-head.false) c.args.n c.sizes_fit-sizes.ensures c.is_product-counts.ensures c.number_of-number.ensures) ∙ c.if-number-ne0.false)).high)
+pub overflow_cast-survey : goal.overflow_cast-survey
+overflow_cast-survey c =
+    let h = c.in-Some.ensures in
+    let l = c.in-Some-look_over.ensures in
+    let z = sym (number_is h l c.args.n c.sizes_fit-sizes.ensures c.is_product-counts.ensures c.in_ok-check.ensures) in
+    omega (arith, (passed h l c.args.n z).wide)
 
-pub overflow_cast-result-3 : goal.overflow_cast-result-3
-overflow_cast-result-3 c = omega (arith, side_small c.head_in-head.ensures c.look_over-look.ensures (not-false _ c.if-not-head.false) c.args.n (sym (number_is c.head_in-head.ensures c.look_over-look.ensures (not-false _ c.if-not-head.false) c.args.n c.sizes_fit-sizes.ensures c.is_product-counts.ensures c.number_of-number.ensures) ∙ c.if-number-ne0.false))
+pub overflow_cast-survey-2 : goal.overflow_cast-survey-2
+overflow_cast-survey-2 c =
+    let h = c.in-Some.ensures in
+    let l = c.in-Some-look_over.ensures in
+    let z = sym (number_is h l c.args.n c.sizes_fit-sizes.ensures c.is_product-counts.ensures c.in_ok-check.ensures) in
+    omega (arith, (passed h l c.args.n z).high)
+
+pub overflow_cast-survey-3 : goal.overflow_cast-survey-3
+overflow_cast-survey-3 c =
+    let h = c.in-Some.ensures in
+    let l = c.in-Some-look_over.ensures in
+    let z = sym (number_is h l c.args.n c.sizes_fit-sizes.ensures c.is_product-counts.ensures c.in_ok-check.ensures) in
+    omega (arith, side_small h l c.args.n z, size_signed c.in-Some.head.side.minus c.in-Some.head.side.size)
 
 pub returns : goal.returns
-returns c = decided c.head_in-head.ensures c.look_over-look.ensures (not-false _ c.if-not-head.false) c.args.n (sym (number_is c.head_in-head.ensures c.look_over-look.ensures (not-false _ c.if-not-head.false) c.args.n c.sizes_fit-sizes.ensures c.is_product-counts.ensures c.number_of-number.ensures) ∙ c.if-number-ne0.false)
+returns c =
+    let h = c.in-Some.ensures in
+    let l = c.in-Some-look_over.ensures in
+    let z = sym (number_is h l c.args.n c.sizes_fit-sizes.ensures c.is_product-counts.ensures c.in_ok-check.ensures) in
+    decided h l c.args.n z (sym (size_signed c.in-Some.head.side.minus c.in-Some.head.side.size))

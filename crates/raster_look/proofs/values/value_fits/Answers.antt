@@ -7,4 +7,4 @@ use Rattle.raster_laws.specs.Looks.{size_signed}
 use Rattle.raster_look.proofs.values.value_fits.Goals as goal
 
 pub returns : goal.returns
-returns c = ap₂ (λ (n : ℕ) (t : Bool). leb n 50000000 && not (c.args.given && t)) (sym (size_signed c.args.minus c.args.size)) c.is_same-same.ensures
+returns c = ap₂ (λ (n : ℕ) (t : Bool). leb n 50000000 && not t) (sym (size_signed c.args.value.minus c.args.value.size)) c.is_given.ensures

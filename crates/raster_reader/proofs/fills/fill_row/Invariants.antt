@@ -2,5 +2,5 @@
 use Rattle.raster_laws.specs.Filled.{RowReading}
 use Rattle.raster_reader.proofs.fills.fill_row.Given as goal
 
-abbrev pub invariant-loop-i : goal.invariant-loop-i
-invariant-loop-i l = RowReading l.text l.at l.initial.row l.p l.row l.i
+abbrev pub invariant-loop-cell : goal.invariant-loop-cell
+invariant-loop-cell l = RowReading l.text l.at l.initial.cell-items l.p l.cell-items l.cell-index

@@ -8,17 +8,8 @@ use Rattle.rules.specs.Raster.{signed_metres}
 use Rattle.print.proofs.Laws.{appended_same, appended_length}
 use Rattle.raster_writer.specs.Lines.{cell_text}
 use Rattle.raster_writer.proofs.Laws.{next_byte}
-use Rattle.raster_writer.proofs.Rows.{length_cell, place_few, place_long, cell_small, cell_read}
+use Rattle.raster_writer.proofs.Rows.{length_cell, place_long, cell_small, cell_read}
 use Rattle.raster_writer.proofs.lines.put_cell.Goals as goal
-
-pub overflow_mul-z : goal.overflow_mul-z
-overflow_mul-z c = omega (arith, place_few c.args.card c.args.land.now c.requires.0)
-
-pub overflow_add-z : goal.overflow_add-z
-overflow_add-z c = omega (arith, place_few c.args.card c.args.land.now c.requires.0)
-
-pub offset_bounds-land-j : goal.offset_bounds-land-j
-offset_bounds-land-j c = omega (arith, place_few c.args.card c.args.land.now c.requires.0)
 
 pub bounds-land-j : goal.bounds-land-j
 bounds-land-j c = place_long c.args.card c.args.land.now c.requires.0

@@ -1,4 +1,3 @@
-use native.Mathlib.Omega.{arith}
 use Rattle.raster_writer.specs.Lines.{cell_text}
 use Rattle.raster_writer.proofs.Loops.{lay_none, lay_room, lay_more, lay_all, whole_length}
 use Rattle.raster_writer.proofs.Rows.{row_none, row_more, row_within}
@@ -9,9 +8,6 @@ loop-i-init c = lay_none (row_none c.args.card c.args.land.now c.args.j)
 
 pub put_cell-end-requires : goal.put_cell-end-requires
 put_cell-end-requires c = (record { checked = c.requires.0.checked; row = c.requires.0.row; column = c.loop-i-test.true }, lay_room c.loop-i.invariant c.requires.1 (cell_text c.args.card c.args.land.now c.loop-i.i c.args.j) (row_within c.args.card c.args.land.now c.args.j c.loop-i.i c.args.card.columns c.loop-i-test.true))
-
-pub loop-i-smaller : goal.loop-i-smaller
-loop-i-smaller c = omega (arith, c.loop-i-test.true)
 
 pub loop-i-preserved : goal.loop-i-preserved
 loop-i-preserved c = lay_more c.loop-i.invariant c.requires.1 (cell_text c.args.card c.args.land.now c.loop-i.i c.args.j) (row_within c.args.card c.args.land.now c.args.j c.loop-i.i c.args.card.columns c.loop-i-test.true) c.loop-i-test.true (row_more c.args.card c.args.land.now c.args.j c.loop-i.i) c.put_cell-end.ensures

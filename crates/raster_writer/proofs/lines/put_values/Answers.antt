@@ -8,17 +8,8 @@ use Rattle.raster_writer.proofs.lines.put_values.Goals as goal
 pub loop-n-init : goal.loop-n-init
 loop-n-init c = lay_none (rows_none c.args.card c.args.land.now)
 
-pub overflow_sub-rows : goal.overflow_sub-rows
-overflow_sub-rows c = omega (arith, c.loop-n-test.true)
-
-pub overflow_sub-rows-in-loop-n : goal.overflow_sub-rows-in-loop-n
-overflow_sub-rows-in-loop-n c = omega (arith, c.loop-n-test.true)
-
 pub put_row-end-requires : goal.put_row-end-requires
 put_row-end-requires c = (record { checked = c.requires.0; row = omega (arith, c.loop-n-test.true) }, lay_room c.loop-n.invariant c.requires.1 (row_text c.args.card c.args.land.now (c.args.card.rows - 1 - c.loop-n.n) c.args.card.columns) (rows_within c.args.card c.args.land.now c.loop-n.n c.args.card.rows c.loop-n-test.true))
-
-pub loop-n-smaller : goal.loop-n-smaller
-loop-n-smaller c = omega (arith, c.loop-n-test.true)
 
 pub loop-n-preserved : goal.loop-n-preserved
 loop-n-preserved c = lay_more c.loop-n.invariant c.requires.1 (row_text c.args.card c.args.land.now (c.args.card.rows - 1 - c.loop-n.n) c.args.card.columns) (rows_within c.args.card c.args.land.now c.loop-n.n c.args.card.rows c.loop-n-test.true) c.loop-n-test.true (rows_more c.args.card c.args.land.now c.loop-n.n) c.put_row-end.ensures

@@ -10,9 +10,6 @@ use Rattle.raster_writer.proofs.Laws.{minus_below, minus_not}
 use Rattle.raster_writer.proofs.Lengths.{length-signed, metres_most}
 use Rattle.raster_writer.proofs.metres.value_size.Goals as goal
 
-pub metres_size-size-requires : goal.metres_size-size-requires
-metres_size-size-requires c = omega (arith, c.size.ensures ∙ ap nat_abs (to_z-of_z c.ranges.z), c.requires)
-
 pub overflow_add-result : goal.overflow_add-result
 overflow_add-result c = let told = to_z-of_z c.ranges.z in let m : c.metres_size-size.result ≡ length (metres (nat_abs c.args.z)) = c.metres_size-size.ensures ∙ ap (λ (k : ℕ). length (metres k)) (c.size.ensures ∙ ap nat_abs told) in omega (arith, m, metres_most (nat_abs c.args.z) (omega (arith, c.requires)))
 

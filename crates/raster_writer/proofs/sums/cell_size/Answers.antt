@@ -5,17 +5,8 @@ use lib.IntN.{ℤ}
 use lib.ListN.{length}
 use Rattle.rules.specs.Site.{read_ground}
 use Rattle.rules.specs.Raster.{signed_metres}
-use Rattle.raster_writer.proofs.Rows.{length_cell, place_few, place_long, cell_small, cell_read, cell_most}
+use Rattle.raster_writer.proofs.Rows.{length_cell, place_long, cell_small, cell_read, cell_most}
 use Rattle.raster_writer.proofs.sums.cell_size.Goals as goal
-
-pub overflow_mul-z : goal.overflow_mul-z
-overflow_mul-z c = omega (arith, place_few c.args.card c.args.land.now c.requires)
-
-pub overflow_add-z : goal.overflow_add-z
-overflow_add-z c = omega (arith, place_few c.args.card c.args.land.now c.requires)
-
-pub offset_bounds-land-j : goal.offset_bounds-land-j
-offset_bounds-land-j c = omega (arith, place_few c.args.card c.args.land.now c.requires)
 
 pub bounds-land-j : goal.bounds-land-j
 bounds-land-j c = place_long c.args.card c.args.land.now c.requires

@@ -15,12 +15,6 @@ loop-i-init c = sum_none (row_none c.args.card c.args.land.now c.args.j)
 pub cell_size-size-requires : goal.cell_size-size-requires
 cell_size-size-requires c = record { checked = c.requires.checked; row = c.requires.row; column = c.loop-i-test.true }
 
-pub overflow_add-size : goal.overflow_add-size
-overflow_add-size c = omega (arith, sum_most c.loop-i.invariant, c.cell_size-size.ensures.1, (card_facts c.args.card c.requires.checked.card).columns_high)
-
-pub loop-i-smaller : goal.loop-i-smaller
-loop-i-smaller c = omega (arith, c.loop-i-test.true)
-
 pub loop-i-preserved : goal.loop-i-preserved
 loop-i-preserved c = sum_more c.loop-i.invariant c.loop-i-test.true (length_row c.args.card c.args.land.now c.args.j c.loop-i.i ∙ ap (λ (k : ℕ). length (row_text c.args.card c.args.land.now c.args.j c.loop-i.i) + k) (sym c.cell_size-size.ensures.0)) c.cell_size-size.ensures.1
 

@@ -12,15 +12,6 @@ use Rattle.raster_writer.proofs.sums.values_size.Goals as goal
 pub loop-n-init : goal.loop-n-init
 loop-n-init c = sum_none (rows_none c.args.card c.args.land.now)
 
-pub row_size-size-requires : goal.row_size-size-requires
-row_size-size-requires c = record { checked = c.requires; row = omega (arith, c.loop-n-test.true) }
-
-pub overflow_add-size : goal.overflow_add-size
-overflow_add-size c = omega (arith, sum_most c.loop-n.invariant, c.row_size-size.ensures.1, (card_facts c.args.card c.requires.card).rows_high)
-
-pub loop-n-smaller : goal.loop-n-smaller
-loop-n-smaller c = omega (arith, c.loop-n-test.true)
-
 pub loop-n-preserved : goal.loop-n-preserved
 loop-n-preserved c = sum_more c.loop-n.invariant c.loop-n-test.true (length_rows c.args.card c.args.land.now c.loop-n.n ∙ ap (λ (k : ℕ). length (row_texts c.args.card c.args.land.now c.loop-n.n) + k) (sym c.row_size-size.ensures.0)) c.row_size-size.ensures.1
 

@@ -2,12 +2,10 @@
 use Prim.Native.Nat.{ℕ, ◌+◌}
 use mathlib.Core.Path.{sym, ap, ◌∙◌}
 use mathlib.Core.Bool.{Bool, ◌&&◌, cond}
-use native.Mathlib.Omega.{arith}
 use lib.IntN.{pos, negsuc}
 use lib.ListN.{length, get_or}
 use lib.Dec.{eqb}
-use borrow.Author.Tests.{eqb-true}
-use Rattle.laws.specs.Tests.{to_T, true_of, and_left, one_fails, both_hold}
+use Rattle.laws.specs.Tests.{one_fails, both_hold}
 use Rattle.laws.specs.Between.{between}
 use Rattle.rules.specs.Grid.{all}
 use Rattle.rules.specs.Site.{grounds_fit, read_ground}
@@ -23,9 +21,6 @@ cells-n-requires c = sym c.card_fits.ensures ∙ c.if-not-card_fits.false
 
 pub returns-then-land-n : goal.returns-then-land-n
 returns-then-land-n c = not_lengths _ (sym c.card_fits.ensures ∙ c.if-not-card_fits.false) (ap (λ (t : Bool). t && (eqb c.args.card.dx c.args.card.dy)) (ap (eqb (length c.args.land.now)) (sym c.cells-n.ensures.0)) ∙ one_fails (eqb (length c.args.land.now) c.cells-n.result) (eqb c.args.card.dx c.args.card.dy) c.if-land-n.true)
-
-pub all_between-requires : goal.all_between-requires
-all_between-requires c = omega (arith, eqb-true (length c.args.land.now) c.cells-n.result (true_of (eqb (length c.args.land.now) c.cells-n.result) (and_left (eqb (length c.args.land.now) c.cells-n.result) (eqb c.args.card.dx c.args.card.dy) (to_T (both_hold (eqb (length c.args.land.now) c.cells-n.result) (eqb c.args.card.dx c.args.card.dy) c.if-land-n.false)))))
 
 pub returns-then-not-all_between : goal.returns-then-not-all_between
 returns-then-not-all_between c = sym (by_values (grounds_fit c.args.card (read_ground c.args.card c.args.land.now)) (sym c.card_fits.ensures ∙ c.if-not-card_fits.false) (ap (λ (t : Bool). t && (eqb c.args.card.dx c.args.card.dy)) (ap (eqb (length c.args.land.now)) (sym c.cells-n.ensures.0)) ∙ both_hold (eqb (length c.args.land.now) c.cells-n.result) (eqb c.args.card.dx c.args.card.dy) c.if-land-n.false) ∙ ap (λ (t : Bool). cond t 0 3) (sym (ap (λ (n : ℕ). all n (λ k. between (negsuc 49999999) (pos 50000000) (get_or c.args.land.now (0 + k) (pos 0)))) c.cells-n.ensures.0 ∙ grounds_are c.args.card c.args.land.now) ∙ sym c.all_between.ensures ∙ c.if-not-all_between.true))

@@ -1,10 +1,6 @@
--- `number_of`: the first test that fails.
+-- `check`: the first test that fails.
 use Rattle.rules.specs.Site.{first_of}
-use Rattle.raster_look.proofs.decisions.number_of.Goals as goal
-
-pub returns-then-not-raster : goal.returns-then-not-raster
-unfolding first_of
-returns-then-not-raster c = rw c.if-not-raster.true
+use Rattle.raster_look.proofs.decisions.check.Goals as goal
 
 pub returns-then-not-sizes : goal.returns-then-not-sizes
 unfolding first_of
