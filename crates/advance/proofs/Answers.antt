@@ -1,27 +1,32 @@
 -- What the tests of a step say in the order in which they are made, and each answer: its number, and the next state where the number is 0.
-use mathlib.Core.Path.{◌≡◌, ◌∙◌, sym}
+use mathlib.Core.Path.{◌≡◌, ◌∙◌, sym, ap}
 use mathlib.Core.Bool.{Bool, true, false, not}
-use mathlib.Core.List.{List}
-use Prim.Native.Nat.{◌*◌}
+use mathlib.Core.List.{List, ◌++◌}
+use Prim.Native.Nat.{◌*◌, ◌-◌}
 use native.Mathlib.Nat.{suc-ne-zero}
 use native.Mathlib.Omega.{arith}
 use borrow.Author.Tests.{not-true, not-false}
 use lib.IntN.{ℤ}
-use lib.ListN.{length, drop}
+use lib.ListN.{length, take, drop}
+use borrow.Rule.Slice.PartMut.{put_mid}
 use Rattle.rules.specs.declared.Card.{Card}
-use Rattle.rules.specs.Site.{read_ground, read_state, state_length}
-use Rattle.rules.specs.Step.{limit_kept, new_heights_fit, Rule, new_velocities_fit, answer, number, step_number_by, next_state_by}
+use Rattle.rules.specs.Site.{read_ground, read_state, write_state}
+use Rattle.rules.specs.Step.{next, limit_kept, new_heights_fit, Rule, new_velocities_fit, answer, number, step_number_by, next_state_by}
 use Rattle.laws.specs.Reading.{Holds}
+use Rattle.laws.specs.Grids.{length-grid}
+use Rattle.laws.specs.Parts.{two_parts}
+use Rattle.laws.specs.Behind.{front_heights}
 use Rattle.laws.specs.Tested.{Filled}
+use Rattle.velocities.specs.Velocities.{next_velocities}
 use Rattle.laws.specs.Facts.{Sound}
 use Rattle.transfers.specs.Tide.{tide, crossings, tide_fits}
 use Rattle.transfers.specs.Known.{SoundState, Limited, TideRoom}
 use Rattle.transfers.proofs.Sites.{facts}
 use Rattle.heights.specs.Known.{MarkedState, Crossed}
 use Rattle.heights.proofs.Tides.{tide_heights}
-use Rattle.still.specs.Marks.{Marked, MarksRoom}
-use Rattle.around.specs.Faces.{Flowing}
-use Rattle.advance.specs.Advance.{StepRoom, MarkedRoom, LimitedRoom, NextRoom, Advanced}
+use Rattle.still.specs.Marks.{MarksRoom}
+use Rattle.around.specs.Flowing.{Flowing}
+use Rattle.advance.specs.Advance.{StepRoom, MarkedRoom, LimitedRoom, Advanced}
 
 pub sound : {c : Card} {g s t n : List ℤ} → StepRoom c g s t n → SoundState c s
 sound {g} room = record { land = g; site = room.sound }
@@ -70,23 +75,34 @@ module _ {c : Card} {t : List ℤ} (s : List ℤ) (limit : limit_kept c (read_st
       let h : new_heights_fit c (read_state c s) ≡ false = sym fit_is ∙ not-true fit b in
       record { number = rw (limit, h); state = λ e. absurd (suc-ne-zero 4 e) }
 
-  pub next_room : not fit ≡ false → {g : List ℤ} → Sound c g s → {marks : List Bool} → Marked c s marks → {n : List ℤ} → length n ≡ state_length c → NextRoom c g s t marks n
-  next_room b sound m long =
-      record { flowing = record { sound = sound; limit = limit; heights = sym fit_is ∙ not-false fit b; tide = holds }; marked = m; long = long }
+  pub flowing_of : not fit ≡ false → {g : List ℤ} → Sound c g s → Flowing c g s t
+  flowing_of b sound = record { sound = sound; limit = limit; heights = sym fit_is ∙ not-false fit b; tide = holds }
+
+-- the heights of the tide, and new velocities behind them, are the next state
+pub whole : (rule : Rule) {c : Card} {g s t : List ℤ} (old : List ℤ) {first last : List ℤ} {fast : Bool} → Flowing c g s t → first ≡ take (c.rows * c.columns) t
+    → Filled (new_velocities_fit rule c (read_ground c g) (read_state c s)) (next_velocities rule c g s) fast last
+    → Filled (new_velocities_fit rule c (read_ground c g) (read_state c s)) (next_state_by rule c g s) fast
+    (put_mid (c.rows * c.columns) (length (first ++ drop (c.rows * c.columns) old) - c.rows * c.columns) (first ++ drop (c.rows * c.columns) old) last)
+unfolding next_state_by next write_state tide next_velocities
+whole rule {c = c} old flowing copied faces =
+    let heights = copied ∙ ap (take (c.rows * c.columns)) flowing.tide.is ∙ front_heights c _ in
+    record {
+      every_one = faces.every_one;
+      is = λ e. two_parts (c.rows * c.columns) old heights (faces.is e) (length-grid _ _ _);
+    }
 
 -- the new velocities
 module _ {rule : Rule} {c : Card} {g s t : List ℤ} (flowing : Flowing c g s t) {fast : Bool} {m : List ℤ} (filled : Filled (new_velocities_fit rule c (read_ground c g) (read_state c s)) (next_state_by rule c g s) fast m) where
   -- 7
-  pub speed_broken : not fast ≡ true → Advanced rule c g s 7 m
+  pub speed_broken : fast ≡ false → Advanced rule c g s 7 m
   unfolding step_number_by number answer
   speed_broken b =
-      let v : new_velocities_fit rule c (read_ground c g) (read_state c s) ≡ false = sym filled.every_one ∙ not-true fast b in
+      let v : new_velocities_fit rule c (read_ground c g) (read_state c s) ≡ false = sym filled.every_one ∙ b in
       record { number = rw (flowing.limit, flowing.heights, v); state = λ e. absurd (suc-ne-zero 6 e) }
 
   -- 0
-  pub all_kept : not fast ≡ false → Advanced rule c g s 0 m
+  pub all_kept : fast ≡ true → Advanced rule c g s 0 m
   unfolding step_number_by number answer
   all_kept b =
-      let yes : fast ≡ true = not-false fast b in
-      let v : new_velocities_fit rule c (read_ground c g) (read_state c s) ≡ true = sym filled.every_one ∙ yes in
-      record { number = rw (flowing.limit, flowing.heights, v); state = λ e. filled.is yes }
+      let v : new_velocities_fit rule c (read_ground c g) (read_state c s) ≡ true = sym filled.every_one ∙ b in
+      record { number = rw (flowing.limit, flowing.heights, v); state = λ e. filled.is b }

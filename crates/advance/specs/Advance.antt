@@ -5,7 +5,6 @@ use Rattle.rules.specs.Site.{read_state, state_length}
 use Rattle.rules.specs.Step.{Rule, limit_kept, step_number_by, next_state_by}
 use Rattle.laws.specs.Facts.{Sound}
 use Rattle.still.specs.Marks.{Marked}
-use Rattle.around.specs.Faces.{Flowing}
 
 -- a tide and a next state, both in the state's layout
 pub record StepRoom (c : Card) (g s t n : List ℤ) : Type 0 where
@@ -26,9 +25,8 @@ pub record LimitedRoom (c : Card) (g s : List ℤ) (marks : List Bool) (t n : Li
   pub tide : length t ≡ state_length c
   pub next : length n ≡ state_length c
 
--- a next state, where the tide is at hand, and the marks of the still rows
-pub record NextRoom (c : Card) (g s t : List ℤ) (marks : List Bool) (n : List ℤ) : Type 0 where
-  pub flowing : Flowing c g s t
+-- a next state, and the marks of the still rows
+pub record NextRoom (c : Card) (s : List ℤ) (marks : List Bool) (n : List ℤ) : Type 0 where
   pub marked : Marked c s marks
   pub long : length n ≡ state_length c
 

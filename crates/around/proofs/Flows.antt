@@ -1,7 +1,6 @@
 -- What stands in the lists of a site with its tide: each cell and each face has its place in them, and the tide has what crossed the faces and the new heights.
 use Prim.Native.Nat.{ℕ, ◌+◌, ◌*◌, ◌≤◌, ◌<◌}
 use mathlib.Core.Path.{◌≡◌, ◌∙◌, refl, sym}
-use mathlib.Core.Bool.{Bool, true, false}
 use mathlib.Core.List.{List}
 use native.Mathlib.Nat.{zero-add}
 use native.Mathlib.Omega.{arith}
@@ -16,9 +15,11 @@ use Rattle.laws.specs.Reading.{long_of, height_read, east_read, north_read}
 use Rattle.transfers.proofs.Sites.{facts}
 use Rattle.transfers.specs.Known.{SoundState}
 use Rattle.transfers.specs.Tide.{tide}
+use Rattle.layout.specs.declared.ways.Way.{Way}
+use Rattle.layout.specs.declared.ways.Way.TheVariants.{East, North}
 use Rattle.layout.specs.Ways.{wide, high, speeds, transfers}
 use Rattle.layout.specs.Places.{FaceIn, FacePlace}
-use Rattle.around.specs.Faces.{Flowing}
+use Rattle.around.specs.Flowing.{Flowing}
 use Rattle.layout.proofs.Pointing.{Cell}
 
 pub ground_read : (c : Card) (g : List ℤ) (i j : ℕ) → get_or g (0 + (j * c.columns + i)) (pos 0) ≡ read_ground c g i j
@@ -52,10 +53,10 @@ module _ {c : Card} {g s t : List ℤ} (f : Flowing c g s t) where
 
   -- at a face: what crossed it
   module _ {i j : ℕ} where
-    pub in_tide : {east : Bool} → FaceIn c east i j → FacePlace c t east i j
+    pub in_tide : {way : Way} → FaceIn c way i j → FacePlace c t way i j
     in_tide p = record { card = (facts sound_of).card; long = long_of f.tide; face = p }
 
-    pub crossed_is : (east : Bool) → FaceIn c east i j → speeds (read_state c t) east i j ≡ transfers c (read_state c s) east i j
+    pub crossed_is : (way : Way) → FaceIn c way i j → speeds (read_state c t) way i j ≡ transfers c (read_state c s) way i j
     unfolding wide high speeds transfers tide read_state
-    crossed_is true p = let h : i ≤ c.columns = omega arith in east_read f.tide i j h p.row refl
-    crossed_is false p = let h : j ≤ c.rows = omega arith in north_read f.tide i j p.column h refl
+    crossed_is East p = let h : i ≤ c.columns = omega arith in east_read f.tide i j h p.row refl
+    crossed_is North p = let h : j ≤ c.rows = omega arith in north_read f.tide i j p.column h refl

@@ -1,7 +1,6 @@
 -- The numbers around an inner face are in their ranges: what the arithmetic of a face requires.
 use Prim.Native.Nat.{ℕ, zero, suc, zero-le}
 use mathlib.Core.Path.{◌≡◌, refl, sym, subst}
-use mathlib.Core.Bool.{Bool, not}
 use mathlib.Core.List.{List}
 use native.Mathlib.Omega.{arith}
 use lib.IntN.{ℤ, pos}
@@ -18,11 +17,13 @@ use Rattle.laws.specs.Bounded.{new_low}
 use Rattle.laws.specs.Reading.{long_of}
 use Rattle.face.specs.Ranges.{Height, Speed, Transfer}
 use Rattle.momentum.specs.Fits.{Ground, FaceFits}
-use Rattle.layout.specs.Ways.{speeds, transfers}
+use Rattle.layout.specs.declared.ways.Way.{Way}
+use Rattle.layout.specs.Ways.{speeds, transfers, across}
 use Rattle.transfers.proofs.Sites.{facts, depths, height_fits_lem, speed_fits_lem, crossed}
 use Rattle.layout.specs.Places.{FaceIn}
 use Rattle.around.specs.Around.{speed_above, speed_below, gathered_face}
-use Rattle.around.specs.Faces.{Flowing, AtFace, inner_face}
+use Rattle.around.specs.Flowing.{Flowing}
+use Rattle.around.specs.Faces.{AtFace, inner_face}
 use Rattle.around.specs.Still.{still_face, StillPlace}
 use Rattle.layout.proofs.Pointing.{Cell, near_in, far_in}
 use Rattle.around.proofs.Around.{cell_k, cell_l, gathered_is}
@@ -56,14 +57,14 @@ module _ {c : Card} {g s t : List ℤ} (f : Flowing c g s t) where
   ground_fits_lem : (i j : ℕ) → Ground (read_ground c g i j)
   ground_fits_lem i j = record { size = (facts (sound_of f)).ground_at i j }
 
-  crossed_fits : {east : Bool} {i j : ℕ} → FaceIn c east i j → Transfer (transfers c (read_state c s) east i j)
-  crossed_fits {east} {i} {j} p = crossed (record { sound = sound_of f; limit = f.limit }) east i j p
+  crossed_fits : {way : Way} {i j : ℕ} → FaceIn c way i j → Transfer (transfers c (read_state c s) way i j)
+  crossed_fits {way} {i} {j} p = crossed (record { sound = sound_of f; limit = f.limit }) way i j p
 
-  module _ (east : Bool) {i j i_l j_l : ℕ} (k : Cell c i j) (l : Cell c i_l j_l) where
-    gathered_fits : FaceFits (gathered_face c (read_ground c g) (read_state c s) east i j i_l j_l)
+  module _ (way : Way) {i j i_l j_l : ℕ} (k : Cell c i j) (l : Cell c i_l j_l) where
+    gathered_fits : FaceFits (gathered_face c (read_ground c g) (read_state c s) way i j i_l j_l)
     unfolding gathered_face speed_above speed_below
     gathered_fits =
-        let speed : (m n : ℕ) → Speed (speeds (read_state c s) east m n) = speed_fits_lem (sound_of f) east in
+        let speed : (m n : ℕ) → Speed (speeds (read_state c s) way m n) = speed_fits_lem (sound_of f) way in
         record {
           old_k = old_fits k;
           old_l = old_fits l;
@@ -71,13 +72,13 @@ module _ {c : Card} {g s t : List ℤ} (f : Flowing c g s t) where
           new_l = new_fits l;
           ground_k = ground_fits_lem i j;
           ground_l = ground_fits_lem i_l j_l;
-          own = crossed_fits (near_in east l);
-          ahead = crossed_fits (far_in east l);
-          behind = crossed_fits (near_in east k);
-          above_k = crossed_fits (far_in (not east) k);
-          above_l = crossed_fits (far_in (not east) l);
-          below_k = crossed_fits (near_in (not east) k);
-          below_l = crossed_fits (near_in (not east) l);
+          own = crossed_fits (near_in way l);
+          ahead = crossed_fits (far_in way l);
+          behind = crossed_fits (near_in way k);
+          above_k = crossed_fits (far_in (across way) k);
+          above_l = crossed_fits (far_in (across way) l);
+          below_k = crossed_fits (near_in (across way) k);
+          below_l = crossed_fits (near_in (across way) l);
           u = speed _ _;
           u_ahead = speed _ _;
           u_behind = speed _ _;
@@ -86,21 +87,20 @@ module _ {c : Card} {g s t : List ℤ} (f : Flowing c g s t) where
         }
 
 -- those of a still face, and the places of its cells
-module _ {c : Card} {g s t : List ℤ} {east : Bool} {i j : ℕ} (a : AtFace c g s t east i j) where
-  place_in : {x : List ℤ} → length x ≡ state_length c → StillPlace c g x east i j
-  place_in long = let f = facts (sound_of a.flowing) in record { card = f.card; land = f.lengths.land; tide = long; column = a.column; row = a.row }
+module _ {c : Card} {g s t : List ℤ} (f : Flowing c g s t) {way : Way} {i j : ℕ} (a : AtFace c way i j) where
+  place_in : {x : List ℤ} → length x ≡ state_length c → StillPlace c g x way i j
+  place_in long = let site = facts (sound_of f) in record { card = site.card; land = site.lengths.land; tide = long; column = a.column; row = a.row }
 
-  pub still_place : StillPlace c g t east i j
-  still_place = place_in (long_of a.flowing.tide)
+  pub still_place : StillPlace c g t way i j
+  still_place = place_in (long_of f.tide)
 
   -- and in the old state, which stands there for the edit `velocities/levels_of_the_old_state`
-  pub old_place : StillPlace c g s east i j
-  old_place = place_in (facts (sound_of a.flowing)).lengths.state
+  pub old_place : StillPlace c g s way i j
+  old_place = place_in (facts (sound_of f)).lengths.state
 
-  pub still_fits : FaceFits (still_face (read_ground c g) (read_state c t).height east i j)
+  pub still_fits : FaceFits (still_face (read_ground c g) (read_state c t).height way i j)
   unfolding still_face
   still_fits =
-      let f = a.flowing in
       let none : Height (pos 0) = record { low = tt; high = tt } in
       let nothing : Transfer (pos 0) = record { size = zero-le } in
       let rest : Speed (pos 0) = record { size = zero-le } in
@@ -125,5 +125,5 @@ module _ {c : Card} {g s t : List ℤ} {east : Bool} {i j : ℕ} (a : AtFace c g
         u_below = rest;
       }
 
-pub face_fits : {c : Card} {g s t : List ℤ} {east : Bool} {i j : ℕ} → AtFace c g s t east i j → FaceFits (inner_face c (read_ground c g) (read_state c s) east i j)
-face_fits {c} {g} {s} {t} {east} {i} {j} a = rw (← gathered_is c (read_ground c g) (read_state c s) east i j) (gathered_fits a.flowing east (cell_k a) (cell_l a refl refl))
+pub face_fits : {c : Card} {g s t : List ℤ} {way : Way} {i j : ℕ} → Flowing c g s t → AtFace c way i j → FaceFits (inner_face c (read_ground c g) (read_state c s) way i j)
+face_fits {c} {g} {s} {t} {way} {i} {j} f a = rw (← gathered_is c (read_ground c g) (read_state c s) way i j) (gathered_fits f way (cell_k a) (cell_l a refl refl))

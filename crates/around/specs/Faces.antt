@@ -1,29 +1,25 @@
 -- The inner faces, and what the functions that look at one require.
-use Rattle.std.specs.Prelude.{ℕ, ◌<◌, ◌≡◌, Bool, true, false, not, List, ℤ}
+use Rattle.std.specs.Prelude.{ℕ, ◌<◌}
 use Rattle.rules.specs.declared.Card.{Card}
 use Rattle.rules.specs.declared.Face.{Face}
 use Rattle.rules.specs.Grid.{Field}
-use Rattle.rules.specs.Site.{Water, read_state}
-use Rattle.rules.specs.Step.{limit_kept, new_heights_fit, east_face, north_face}
-use Rattle.laws.specs.Reading.{Holds}
-use Rattle.laws.specs.Facts.{Sound}
-use Rattle.transfers.specs.Tide.{tide}
-use Rattle.layout.specs.Ways.{forth}
+use Rattle.rules.specs.Site.{Water, read_ground, read_state}
+use Rattle.rules.specs.Step.{east_face, north_face}
+use Rattle.layout.specs.declared.ways.Way.{Way}
+use Rattle.layout.specs.declared.ways.Way.TheVariants.{East, North}
+use Rattle.layout.specs.Ways.{forth, across}
+use Rattle.around.specs.declared.flow.Flow.{Flow}
 
--- a sound site that keeps the step limit, with new heights in their range and the tide at hand
-pub record Flowing (c : Card) (g s t : List ℤ) : Type 0 where
-  pub sound : Sound c g s
-  pub limit : limit_kept c (read_state c s) ≡ true
-  pub heights : new_heights_fit c (read_state c s) ≡ true
-  pub tide : Holds c (tide c (read_state c s)) t
+-- the inner face of which (i, j) is cell K
+unfoldable pub inner_face : Card → Field → Water → Way → ℕ → ℕ → Face
+inner_face c g w East = east_face c g w
+inner_face c g w North = north_face c g w
 
--- the inner face of which (i, j) is cell K, eastward (`true`) or northward (`false`)
-unfoldable pub inner_face : Card → Field → Water → Bool → ℕ → ℕ → Face
-inner_face c g w true = east_face c g w
-inner_face c g w false = north_face c g w
+-- that of a step half way through
+abbrev pub flow_face : Flow → Way → ℕ → ℕ → Face
+flow_face f = inner_face f.card (read_ground f.card f.land.now) (read_state f.card f.state.now)
 
 -- there is one: cell L is a cell too
-pub record AtFace (c : Card) (g s t : List ℤ) (east : Bool) (i j : ℕ) : Type 0 where
-  pub flowing : Flowing c g s t
-  pub column : forth east i < c.columns
-  pub row : forth (not east) j < c.rows
+pub record AtFace (c : Card) (way : Way) (i j : ℕ) : Type 0 where
+  pub column : forth way i < c.columns
+  pub row : forth (across way) j < c.rows

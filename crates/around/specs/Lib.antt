@@ -1,3 +1,4 @@
 pub mod Around
+pub mod Flowing
 pub mod Faces
 pub mod Still

@@ -4,18 +4,18 @@ ghost use Rattle.std.specs.Prelude.{◌≡◌};
 ghost use Rattle.rules.specs.Site.{read_ground, read_state};
 ghost use Rattle.around.specs.Still.{still_face, StillPlace};
 
-use layout::ways;
+use layout::ways::Way;
 use layout::words::height_at;
 use rules::{Card, Face};
 
 // The inner face of which (i, j) is cell K, as if it were still: with 0 for all that is no level.
-pub fn still_face(card: Card, east: bool, land: &[i32], tide: &[i32], i: usize, j: usize) -> Face
-    requires { StillPlace card land.now tide.now east i j }
-    ensures { result ≡ still_face (read_ground card land.now) (read_state card tide.now).height east i j }
+pub fn still_face(card: Card, way: Way, land: &[i32], tide: &[i32], i: usize, j: usize) -> Face
+    requires { StillPlace card land.now tide.now way i j }
+    ensures { result ≡ still_face (read_ground card land.now) (read_state card tide.now).height way i j }
 {
     let columns = card.columns as usize;
-    let i_l = ways::forth(east, i);
-    let j_l = ways::forth(!east, j);
+    let i_l = way.forth_column(i);
+    let j_l = way.forth_row(j);
     Face {
         old_k: 0,
         old_l: 0,

@@ -2,5 +2,6 @@
 #![tactic(auto)]
 
 pub mod faces;
+pub mod flow;
 pub mod levels;
 mod words;

@@ -33,22 +33,16 @@ pub fn transfer(hk: i32, hl: i32, u: i32, dt: u32, d: u32) -> i64
 
 // ---- Step limit
 
-fn size(v: i32) -> u64
-    requires { Speed v }
-    ensures { result ≡ nat_abs v }
-{
-    if v < 0 { (0 - v) as u64 } else { v as u64 }
-}
-
 // What a face counts in a cell's limit: its speed where its velocity points out of the cell, else nothing.
+#[tactic(auto, unfolding(crate::specs::Counts::counts))]
 fn counted(v: i32, out: bool) -> u64
     requires { Speed v }
     ensures { result ≡ counts out v }
 {
-    if out { size(v) } else { 0 }
+    if out { u64::from(v.unsigned_abs()) } else { 0 }
 }
 
-// Whether a cell with these face velocities keeps the step limit.
+// Whether a cell with these face velocities keeps the step limit: its seven numbers.
 pub fn keeps_limit(west: i32, east: i32, south: i32, north: i32, dt: u32, dx: u32, dy: u32) -> bool
     requires { InLimit west east south north dt dx dy }
     ensures { result ≡ leb (dt * ((step.backward west + step.forward east) * dy + (step.backward south + step.forward north) * dx)) (1000 * (dx * dy)) }

@@ -1,6 +1,5 @@
 -- What is read from a list that holds the tide, or so far only what crosses the faces.
 use mathlib.Core.Path.{◌≡◌, sym, ap, ◌∙◌}
-use mathlib.Core.Bool.{Bool, true, false}
 use mathlib.Core.List.{List}
 use Prim.Native.Nat.{ℕ, ◌*◌}
 use native.Mathlib.Omega.{arith}
@@ -15,6 +14,8 @@ use Rattle.laws.specs.States.{height_back, east_back, north_back}
 use Rattle.laws.specs.Behind.{behind_heights, east_alike, north_alike}
 use Rattle.laws.specs.Reading.{Holds}
 use Rattle.transfers.specs.Tide.{tide, crossings, tide_fits}
+use Rattle.layout.specs.declared.ways.Way.{Way}
+use Rattle.layout.specs.declared.ways.Way.TheVariants.{East, North}
 use Rattle.layout.specs.Places.{FaceIn}
 use Rattle.heights.specs.Known.{Crossed}
 use Rattle.layout.specs.Ways.{wide, high, speeds, transfers}
@@ -24,12 +25,12 @@ module _ {c : Card} {s t : List ℤ} (lists : Crossed c s t) where
   unfolding crossings tide
   like_tide = lists.crossed ∙ sym (behind_heights c (tide c (read_state c s)))
 
-  pub crossing : (east : Bool) (i j : ℕ) → FaceIn c east i j → speeds (read_state c t) east i j ≡ transfers c (read_state c s) east i j
+  pub crossing : (way : Way) (i j : ℕ) → FaceIn c way i j → speeds (read_state c t) way i j ≡ transfers c (read_state c s) way i j
   unfolding tide wide high speeds transfers
-  crossing true i j f =
+  crossing East i j f =
       let w = tide c (read_state c s) in
       east_alike c t (write_state c w) like_tide i j ∙ east_back c w i j (omega (arith, f.column)) f.row
-  crossing false i j f =
+  crossing North i j f =
       let w = tide c (read_state c s) in
       north_alike c t (write_state c w) like_tide i j ∙ north_back c w i j f.column (omega (arith, f.row))
 

@@ -26,6 +26,7 @@ pub fn limit_kept(card: Card, state: &[i32], marks: &[bool]) -> bool
     let columns = card.columns as usize;
     let rows = card.rows as usize;
     let mut kept = true;
+    // Left by a label, as document 01 names the form of this place; by row and column, the numbers that a cell's four faces take.
     'look: for j in 0..rows {
         if marks[j] {
             continue 'look;

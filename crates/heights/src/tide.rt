@@ -27,6 +27,7 @@ pub fn heights(card: Card, state: &[i32], tide: &mut [i32])
 {
     let columns = card.columns as usize;
     let rows = card.rows as usize;
+    // By row and column, the numbers that a cell's height and its four faces take.
     for j in 0..rows {
         for i in 0..columns {
             lists::put(tide, columns, i, j, new_height(card, state, tide, i, j));
@@ -51,9 +52,10 @@ pub fn heights_fit(card: Card, tide: &[i32]) -> bool
     let columns = card.columns as usize;
     let rows = card.rows as usize;
     let mut fit = true;
+    // By row and column, which a height's place takes; with no branch in it, so that the compiler may take several at once.
     for j in 0..rows {
         for i in 0..columns {
-            fit = fit & height_fits(card, tide, i, j);
+            fit &= height_fits(card, tide, i, j);
         }
     }
     fit

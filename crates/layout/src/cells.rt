@@ -2,10 +2,11 @@
 ghost use Rattle.std.specs.Prelude.{◌≡◌};
 ghost use Rattle.layout.specs.Cells.{CellPlace, cell_at};
 
+use super::ways::Way;
 use super::words;
 use rules::Card;
 
-#[derive(Clone, Copy)]
+#[derive(Clone, Copy, Debug, PartialEq, Eq)]
 pub struct Cell {
     pub height: i32,
     pub west: i32,
@@ -21,9 +22,9 @@ pub fn cell_at(card: Card, heights: &[i32], faces: &[i32], i: usize, j: usize) -
 {
     Cell {
         height: words::height_at(card, heights, i, j),
-        west: words::face_at(card, true, faces, i, j),
-        east: words::face_at(card, true, faces, i + 1, j),
-        south: words::face_at(card, false, faces, i, j),
-        north: words::face_at(card, false, faces, i, j + 1),
+        west: words::face_at(card, Way::East, faces, i, j),
+        east: words::face_at(card, Way::East, faces, i + 1, j),
+        south: words::face_at(card, Way::North, faces, i, j),
+        north: words::face_at(card, Way::North, faces, i, j + 1),
     }
 }

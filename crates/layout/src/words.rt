@@ -4,7 +4,7 @@ ghost use Rattle.rules.specs.Site.{read_state};
 ghost use Rattle.layout.specs.Places.{HeightPlace, FacePlace};
 ghost use Rattle.layout.specs.Ways.{speeds};
 
-use super::ways;
+use super::ways::Way;
 use rules::Card;
 
 // The height of a cell.
@@ -17,11 +17,11 @@ pub fn height_at(card: Card, state: &[i32], i: usize, j: usize) -> i32
 }
 
 // What stands at a face of this way.
-pub fn face_at(card: Card, east: bool, state: &[i32], i: usize, j: usize) -> i32
-    requires { FacePlace card state.now east i j }
-    ensures { result ≡ speeds (read_state card state.now) east i j }
+pub fn face_at(card: Card, way: Way, state: &[i32], i: usize, j: usize) -> i32
+    requires { FacePlace card state.now way i j }
+    ensures { result ≡ speeds (read_state card state.now) way i j }
 {
-    let first = ways::first(card, east);
-    let wide = ways::wide(card, east);
+    let first = way.first(card);
+    let wide = way.wide(card);
     lists::word(state, first, wide, i, j)
 }

@@ -1,19 +1,14 @@
--- What `positive` is as the code computes it.
-use Prim.Native.Nat.{ℕ}
+-- The positive part of a flow is the greater of it and 0.
+use Prim.Native.Nat.{zero, suc, zero-le, suc-le-suc}
 use mathlib.Core.Path.{◌≡◌, refl}
-use mathlib.Core.Bool.{true, false}
-use native.Mathlib.Omega.{arith}
-use borrow.Author.Tests.{ltb-true}
+use lib.Dec.{ltb, lt→ltb}
 use lib.IntN.{ℤ, pos, negsuc}
-use lib.Signed.{lt_z}
+use Rattle.std.specs.Int.{int_max}
 use Rattle.rules.specs.Step.{forward, positive}
+use Rattle.laws.specs.Tests.{true_of}
 
-pub positive_yes : (x : ℤ) → lt_z x (pos 0) ≡ true → positive x ≡ pos 0
+pub positive_max : (x : ℤ) → int_max x (pos 0) ≡ positive x
 unfolding forward positive
-positive_yes (pos n) e = let h = ltb-true n 0 e in absurd (omega arith)
-positive_yes (negsuc n) e = refl
-
-pub positive_no : (x : ℤ) → lt_z x (pos 0) ≡ false → positive x ≡ x
-unfolding forward positive
-positive_no (pos n) e = refl
-positive_no (negsuc n) e = let z : ◌≡◌ {A = ℕ} 0 1 = cc in absurd (omega arith)
+positive_max (pos zero) = refl
+positive_max (pos (suc n)) = rw (true_of (ltb 0 (suc n)) (lt→ltb 0 (suc n) (suc-le-suc zero-le)))
+positive_max (negsuc n) = refl

@@ -22,7 +22,7 @@ fn out_behind(f: Face) -> i32
 {
     let own = f.own;
     let behind = f.behind;
-    0 - (own + behind)
+    -(own + behind)
 }
 
 fn out_above(f: Face) -> i32
@@ -40,13 +40,15 @@ fn out_below(f: Face) -> i32
 {
     let k = f.below_k;
     let l = f.below_l;
-    0 - (k + l)
+    -(k + l)
 }
 
+#[tactic(auto, using(crate::proofs::Laws::positive_max))]
+// The definition's word in the code, with std's method inside.
 fn positive(flow: i32) -> i32
     ensures { result ≡ step.positive flow }
 {
-    if flow < 0 { 0 } else { flow }
+    flow.max(0)
 }
 
 // Own share: what stays in the face's cell.
@@ -66,7 +68,7 @@ fn brought(out: i32, v: i32) -> i64
     requires { Flow out v }
     ensures { result ≡ step.brought out v }
 {
-    (positive(0 - out) as i64) * (v as i64)
+    (positive(-out) as i64) * (v as i64)
 }
 
 pub fn carried(f: Face) -> i64

@@ -8,49 +8,48 @@ ghost use Rattle.layout.specs.Ways.{speeds};
 ghost use Rattle.still.specs.Rows.{row_still, cells_still};
 ghost use Rattle.still.specs.Marks.{Marked, both_marked, FaceRow, CellRow, MarksRoom, RowIn};
 
-use layout::{ways, words};
+use layout::ways::Way;
+use layout::words;
 use rules::Card;
 
 // Whether a face has velocity 0.
-fn face_still(card: Card, east: bool, state: &[i32], i: usize, j: usize) -> bool
-    requires { FacePlace card state.now east i j }
-    ensures { result ≡ is_zero (speeds (read_state card state.now) east i j) }
+fn face_still(card: Card, way: Way, state: &[i32], i: usize, j: usize) -> bool
+    requires { FacePlace card state.now way i j }
+    ensures { result ≡ is_zero (speeds (read_state card state.now) way i j) }
 {
-    walls::is_zero(words::face_at(card, east, state, i, j))
+    walls::is_zero(words::face_at(card, way, state, i, j))
 }
 
 // Whether every face of row j that points this way has. Where water moves, the middle of the row does in nearly every state: so that is looked at first.
-fn row_still(card: Card, east: bool, state: &[i32], j: usize) -> bool
-    requires { FaceRow card state.now east j }
-    ensures { result ≡ row_still card (read_state card state.now) east j }
+fn row_still(card: Card, way: Way, state: &[i32], j: usize) -> bool
+    requires { FaceRow card state.now way j }
+    ensures { result ≡ row_still card (read_state card state.now) way j }
 {
-    let wide = ways::wide(card, east);
+    let wide = way.wide(card);
     let half = wide / 2;
-    if !face_still(card, east, state, half, j) {
+    if !face_still(card, way, state, half, j) {
         return false;
     }
     let mut still = true;
+    // A loop, since a face's place takes the column's number; with no branch in it, so that the compiler may take several faces at once.
     for i in 0..wide {
-        still = still & face_still(card, east, state, i, j);
+        still &= face_still(card, way, state, i, j);
     }
     still
 }
 
 // Whether every face of every cell of row j has.
+#[tactic(auto, unfolding(crate::specs::Rows::cells_still, layout::specs::Ways::high))]
 fn cells_still(card: Card, state: &[i32], j: usize) -> bool
     requires { CellRow card state.now j }
     ensures { result ≡ cells_still card (read_state card state.now) j }
 {
-    if !row_still(card, true, state, j) {
-        return false;
-    }
-    if !row_still(card, false, state, j) {
-        return false;
-    }
-    row_still(card, false, state, j + 1)
+    row_still(card, Way::East, state, j)
+        && row_still(card, Way::North, state, j)
+        && row_still(card, Way::North, state, j + 1)
 }
 
-// No row marked.
+// No row marked. A function, since two calls ask for it.
 pub fn no_marks() -> [bool; 128]
     ensures { length result ≡ 128 }
 {
@@ -63,22 +62,26 @@ pub fn mark(card: Card, state: &[i32], marks: &mut [bool])
     ensures { Marked card state.now marks.new }
 {
     let rows = card.rows as usize;
+    // By its number, which the look at a row takes too.
     for j in 0..rows {
         marks[j] = cells_still(card, state, j);
     }
 }
 
 // Whether the cells on both sides of row j of the faces that point this way are marked. A row of walls parts no cells.
-pub fn both_still(card: Card, east: bool, marks: &[bool], j: usize) -> bool
-    requires { RowIn card east marks.now j }
-    ensures { result ≡ both_marked card east marks.now j }
+#[tactic(auto, unfolding(crate::specs::Marks::both_marked, layout::specs::Ways::high))]
+pub fn both_still(card: Card, way: Way, marks: &[bool], j: usize) -> bool
+    requires { RowIn card way marks.now j }
+    ensures { result ≡ both_marked card way marks.now j }
 {
-    if east {
-        return marks[j];
+    match way {
+        Way::East => marks[j],
+        Way::North => {
+            let rows = card.rows as usize;
+            if (j == 0) | (j == rows) {
+                return false;
+            }
+            marks[j - 1] & marks[j]
+        }
     }
-    let rows = card.rows as usize;
-    if (j == 0) | (j == rows) {
-        return false;
-    }
-    marks[j - 1] & marks[j]
 }

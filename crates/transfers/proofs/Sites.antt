@@ -1,6 +1,5 @@
 -- What the state of a sound site gives to a function that reads it: places that lie in it, and numbers in their ranges.
 use mathlib.Core.Path.{◌≡◌, sym, subst}
-use mathlib.Core.Bool.{Bool, true, false}
 use mathlib.Core.List.{List}
 use Prim.Native.Nat.{ℕ, ◌≤◌, ◌<◌, ◌^◌}
 use native.Mathlib.Omega.{arith}
@@ -16,6 +15,8 @@ use Rattle.laws.specs.Signed.{word_is}
 use Rattle.laws.specs.Tests.{to_T}
 use Rattle.laws.specs.Facts.{Fits, sound_depths, sound_facts}
 use Rattle.laws.specs.Bounded as bounded
+use Rattle.layout.specs.declared.ways.Way.{Way}
+use Rattle.layout.specs.declared.ways.Way.TheVariants.{East, North}
 use Rattle.layout.specs.Places.{HeightPlace, FaceIn, FacePlace}
 use Rattle.transfers.specs.Known.{SoundState, Limited}
 use Rattle.layout.specs.Ways.{wide, high, side, speeds, transfers}
@@ -42,7 +43,7 @@ module _ {c : Card} {s : List ℤ} (sound : SoundState c s) where
     pub height_place : i < c.columns → j < c.rows → HeightPlace c s i j
     height_place hi hj = record { long = facts.lengths.state; column = hi; row = hj }
 
-    pub face_place : {east : Bool} → FaceIn c east i j → FacePlace c s east i j
+    pub face_place : {way : Way} → FaceIn c way i j → FacePlace c s way i j
     face_place f = record { card = facts.card; long = facts.lengths.state; face = f }
 
   -- ---- numbers
@@ -55,20 +56,20 @@ module _ {c : Card} {s : List ℤ} (sound : SoundState c s) where
   pub height_within : (i j : ℕ) → i < c.columns → j < c.rows → Within 50000000 ((read_state c s).height i j)
   height_within i j hi hj = record { size = facts.height_high_at i j hi hj }
 
-  pub speed_fits_lem : (east : Bool) (i j : ℕ) → Speed (speeds (read_state c s) east i j)
+  pub speed_fits_lem : (way : Way) (i j : ℕ) → Speed (speeds (read_state c s) way i j)
   unfolding speeds
-  speed_fits_lem true i j = record { size = facts.east_at i j }
-  speed_fits_lem false i j = record { size = facts.north_at i j }
+  speed_fits_lem East i j = record { size = facts.east_at i j }
+  speed_fits_lem North i j = record { size = facts.north_at i j }
 
   -- ---- the card
 
   pub time : Time c.dt
   time = record { low = facts.card.dt_low; high = facts.card.dt_high }
 
-  pub side_fits : (east : Bool) → Side (side c east)
+  pub side_fits : (way : Way) → Side (side c way)
   unfolding side
-  side_fits true = record { low = facts.card.dx_low; high = facts.card.dx_high }
-  side_fits false = record { low = facts.card.dy_low; high = facts.card.dy_high }
+  side_fits East = record { low = facts.card.dx_low; high = facts.card.dx_high }
+  side_fits North = record { low = facts.card.dy_low; high = facts.card.dy_high }
 
   pub depths : T (heights_fit c (read_state c s))
   depths = sound_depths c sound.land s sound.site
@@ -76,11 +77,11 @@ module _ {c : Card} {s : List ℤ} (sound : SoundState c s) where
 -- ---- under the step limit: what crosses a face is at most a height
 
 module _ {c : Card} {s : List ℤ} (limited : Limited c s) where
-  pub crossed : (east : Bool) (i j : ℕ) → FaceIn c east i j → Within 50000000 (transfers c (read_state c s) east i j)
+  pub crossed : (way : Way) (i j : ℕ) → FaceIn c way i j → Within 50000000 (transfers c (read_state c s) way i j)
   unfolding wide high transfers
-  crossed true i j f =
+  crossed East i j f =
       let card = (facts limited.sound).card in
       bounded.east_within c (read_state c s) (omega arith) (omega arith) (depths limited.sound) (to_T limited.limit) i j f.row
-  crossed false i j f =
+  crossed North i j f =
       let card = (facts limited.sound).card in
       bounded.north_within c (read_state c s) (omega arith) (omega arith) (depths limited.sound) (to_T limited.limit) i j f.column

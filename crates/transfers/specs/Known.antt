@@ -6,6 +6,7 @@ use Rattle.rules.specs.Step.{transfer, limit_kept}
 use Rattle.laws.specs.Sizes.{Within}
 use Rattle.laws.specs.Facts.{Sound}
 use Rattle.face.specs.Ranges.{InTransfer}
+use Rattle.layout.specs.declared.ways.Way.{Way}
 use Rattle.layout.specs.Places.{FaceIn}
 use Rattle.layout.specs.Ways.{wide, high}
 use Rattle.still.specs.Marks.{Marked}
@@ -21,9 +22,9 @@ pub record Limited (c : Card) (s : List ℤ) : Type 0 where
   pub limit : limit_kept c (read_state c s) ≡ true
 
 -- a face of such a state
-pub record LimitedFace (c : Card) (s : List ℤ) (east : Bool) (i j : ℕ) : Type 0 where
+pub record LimitedFace (c : Card) (s : List ℤ) (way : Way) (i j : ℕ) : Type 0 where
   pub limited : Limited c s
-  pub face : FaceIn c east i j
+  pub face : FaceIn c way i j
 
 -- the numbers of a face, and that what crosses it is at most a height
 pub record InCrossing (h_k h_l u : ℤ) (dt d : ℕ) : Type 0 where
@@ -31,10 +32,10 @@ pub record InCrossing (h_k h_l u : ℤ) (dt d : ℕ) : Type 0 where
   pub size : Within 50000000 (transfer dt d h_k h_l u)
 
 -- room for what crosses the faces of one way, and for both
-pub record FacesRoom (c : Card) (s : List ℤ) (marks : List Bool) (east : Bool) (part : List ℤ) : Type 0 where
+pub record FacesRoom (c : Card) (s : List ℤ) (marks : List Bool) (way : Way) (part : List ℤ) : Type 0 where
   pub limited : Limited c s
   pub marked : Marked c s marks
-  pub long : length part ≡ high c east * wide c east
+  pub long : length part ≡ high c way * wide c way
 
 pub record CrossingsRoom (c : Card) (s : List ℤ) (marks : List Bool) (part : List ℤ) : Type 0 where
   pub limited : Limited c s

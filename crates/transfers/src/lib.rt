@@ -10,7 +10,8 @@ ghost use Rattle.transfers.specs.Tide.{crossings};
 ghost use Rattle.transfers.specs.Known.{InCrossing, LimitedFace, FacesRoom, CrossingsRoom, TideRoom};
 ghost use Rattle.layout.specs.Ways as Ways;
 
-use layout::{ways, words};
+use layout::ways::Way;
+use layout::words;
 use rules::Card;
 
 // What crosses the face between K and L, where the step limit bounds it.
@@ -22,37 +23,38 @@ fn crossing(hk: i32, hl: i32, u: i32, dt: u32, d: u32) -> i32
 }
 
 // What crosses one face of this way. Where the velocity is 0, no height is read.
-fn over_face(card: Card, east: bool, state: &[i32], i: usize, j: usize) -> i32
-    requires { LimitedFace card state.now east i j }
-    ensures { result ≡ Ways.transfers card (read_state card state.now) east i j }
+fn over_face(card: Card, way: Way, state: &[i32], i: usize, j: usize) -> i32
+    requires { LimitedFace card state.now way i j }
+    ensures { result ≡ Ways.transfers card (read_state card state.now) way i j }
 {
-    if ways::is_wall(card, east, i, j) {
+    if way.is_wall(card, i, j) {
         return 0;
     }
-    let u = words::face_at(card, east, state, i, j);
+    let u = words::face_at(card, way, state, i, j);
     if u == 0 {
         0
     } else {
-        let k = words::height_at(card, state, ways::back(east, i), ways::back(!east, j));
+        let k = words::height_at(card, state, way.back_column(i), way.back_row(j));
         let l = words::height_at(card, state, i, j);
-        crossing(k, l, u, card.dt, ways::side(card, east))
+        crossing(k, l, u, card.dt, way.side(card))
     }
 }
 
 // What crosses every face of this way.
-fn over_faces(card: Card, east: bool, state: &[i32], marks: &[bool], part: &mut [i32])
-    requires { FacesRoom card state.now marks.now east part.old }
-    ensures { part.new ≡ grid (Ways.wide card east) (Ways.high card east) (Ways.transfers card (read_state card state.now) east) }
+fn over_faces(card: Card, way: Way, state: &[i32], marks: &[bool], part: &mut [i32])
+    requires { FacesRoom card state.now marks.now way part.old }
+    ensures { part.new ≡ grid (Ways.wide card way) (Ways.high card way) (Ways.transfers card (read_state card state.now) way) }
 {
-    let wide = ways::wide(card, east);
-    let high = ways::high(card, east);
+    let wide = way.wide(card);
+    let high = way.high(card);
+    // By row and column, the numbers that a face's place and its two cells take.
     for j in 0..high {
-        let still = still::both_still(card, east, marks, j);
+        let still = still::both_still(card, way, marks, j);
         for i in 0..wide {
             let crossed = if still {
                 0
             } else {
-                over_face(card, east, state, i, j)
+                over_face(card, way, state, i, j)
             };
             lists::put(part, wide, i, j, crossed);
         }
@@ -67,8 +69,8 @@ fn both_ways(card: Card, state: &[i32], marks: &[bool], part: &mut [i32])
     let columns = card.columns as usize;
     let rows = card.rows as usize;
     let faces = rows * (columns + 1);
-    over_faces(card, true, state, marks, &mut part[..faces]);
-    over_faces(card, false, state, marks, &mut part[faces..]);
+    over_faces(card, Way::East, state, marks, &mut part[..faces]);
+    over_faces(card, Way::North, state, marks, &mut part[faces..]);
 }
 
 // Into the tide, behind its heights.

@@ -15,7 +15,9 @@ use Rattle.laws.specs.Levels.{SameLevels, same_sum, same_bank, same_rise_of}
 use Rattle.momentum.specs.Fits.{FaceFits}
 use Rattle.velocity.specs.Fits.{WetFace, InVelocity, InStillVelocity}
 use Rattle.velocity.proofs.Bounds.{rise_of_within}
+use Rattle.layout.specs.declared.ways.Way.{Way}
 use Rattle.layout.specs.Ways.{side}
+use Rattle.around.specs.Flowing.{Flowing}
 use Rattle.around.specs.Faces.{AtFace, inner_face}
 use Rattle.around.specs.Still.{still_face}
 use Rattle.transfers.proofs.Sites.{time, side_fits}
@@ -23,20 +25,20 @@ use Rattle.around.proofs.Flows.{sound_of}
 use Rattle.around.proofs.Ranges.{face_fits, still_fits}
 use Rattle.around.proofs.Still.{all_still_lem, levels_same}
 
-module _ {c : Card} {g s t : List ℤ} {east : Bool} {k l : ℕ} (a : AtFace c g s t east k l) {levels : Face} (read : levels ≡ still_face (read_ground c g) (read_state c t).height east k l) where
+module _ {c : Card} {g s t : List ℤ} (flowing : Flowing c g s t) {way : Way} {k l : ℕ} (a : AtFace c way k l) {levels : Face} (read : levels ≡ still_face (read_ground c g) (read_state c t).height way k l) where
   abbrev whole : Face
-  whole = inner_face c (read_ground c g) (read_state c s) east k l
+  whole = inner_face c (read_ground c g) (read_state c s) way k l
 
   same : SameLevels levels whole
-  same = rw read (levels_same a)
+  same = rw read (levels_same flowing a)
 
   pub levels_fit : FaceFits levels
-  levels_fit = rw read (still_fits a)
+  levels_fit = rw read (still_fits flowing a)
 
-  pub in_still : {d : ℕ} → d ≡ side c east → InStillVelocity levels c.dt d
+  pub in_still : {d : ℕ} → d ≡ side c way → InStillVelocity levels c.dt d
   in_still e =
-      let sound = sound_of a.flowing in
-      record { face = levels_fit; time = time sound; side = rw e (side_fits sound east); nothing = rw read (carries_nothing (all_still_lem (read_ground c g) (read_state c t).height east k l)) }
+      let sound = sound_of flowing in
+      record { face = levels_fit; time = time sound; side = rw e (side_fits sound way); nothing = rw read (carries_nothing (all_still_lem (read_ground c g) (read_state c t).height way k l)) }
 
   -- 0 without water, and on a dry bank
   pub dry_is : (textbook : Bool) (d : ℕ) → is_zero (new_sum levels) ≡ true → pos 0 ≡ engine textbook c.dt d whole
@@ -50,19 +52,19 @@ module _ {c : Card} {g s t : List ℤ} {east : Bool} {k l : ℕ} (a : AtFace c g
     wet_levels = record { face = levels_fit; wet = wet }
 
     -- with the rise that was returned, and the face that was gathered
-    module _ (textbook : Bool) {r : ℤ} (risen : r ≡ rise_of textbook levels) {f : Face} (gathered : f ≡ whole) {d : ℕ} (e : d ≡ side c east) where
+    module _ (textbook : Bool) {r : ℤ} (risen : r ≡ rise_of textbook levels) {f : Face} (gathered : f ≡ whole) {d : ℕ} (e : d ≡ side c way) where
       wet_whole : is_zero (new_sum f) ≡ false
       wet_whole = rw (gathered, ← same_sum same) wet
 
       pub in_velocity : InVelocity f r c.dt d
       in_velocity =
-          let sound = sound_of a.flowing in
+          let sound = sound_of flowing in
           record {
-            wet_face = record { face = rw gathered (face_fits a); wet = wet_whole };
-            slope = record { small = rw risen (rise_of_within textbook wet_levels); time = time sound; side = rw e (side_fits sound east) };
+            wet_face = record { face = rw gathered (face_fits flowing a); wet = wet_whole };
+            slope = record { small = rw risen (rise_of_within textbook wet_levels); time = time sound; side = rw e (side_fits sound way) };
           }
 
-      pub moved_is : dry_bank levels ≡ false → carried_part f -ℤ slope c.dt d r ≡ engine textbook c.dt (side c east) whole
+      pub moved_is : dry_bank levels ≡ false → carried_part f -ℤ slope c.dt d r ≡ engine textbook c.dt (side c way) whole
       moved_is none =
           ap (λ (x : ℤ). carried_part f -ℤ slope c.dt d x) (risen ∙ same_rise_of same textbook ∙ ap (rise_of textbook) (sym gathered))
           ∙ sym (elsewhere (rise_of textbook) c.dt d f wet_whole (rw gathered (sym (same_bank same) ∙ none)))

@@ -8,56 +8,43 @@ ghost use Rattle.rules.specs.Step.{new_velocities_fit};
 ghost use Rattle.laws.specs.Engines.{engine};
 ghost use Rattle.laws.specs.Tested.{Filled};
 ghost use Rattle.layout.specs.Ways as Ways;
-ghost use Rattle.velocities.specs.Velocities.{OnFace, Room, new_speeds, next_velocities};
+ghost use Rattle.velocities.specs.Velocities.{OnFace, Room, flow_speeds, next_velocities};
 
 use crate::inner;
-use layout::ways;
-use rules::Card;
+use around::flow::Flow;
+use layout::ways::Way;
+use velocity::engines::Engine;
 
 // The new velocity of a face, a wall or an inner one, in a row that is passed over as still or in any other.
-fn velocity(
-    card: Card,
-    east: bool,
-    land: &[i32],
-    state: &[i32],
-    tide: &[i32],
-    i: usize,
-    j: usize,
-    still: bool,
-    textbook: bool,
-) -> i64
-    requires { OnFace card land.now state.now tide.now east i j still textbook }
-    ensures { result ≡ new_speeds (engine textbook) card land.now state.now east i j }
+fn velocity<E: Engine>(flow: &Flow, way: Way, i: usize, j: usize, still: bool) -> i64
+    requires { OnFace flow.now.card flow.now.state.now way i j still E.TEXTBOOK }
+    ensures { result ≡ flow_speeds (engine E.TEXTBOOK) flow.now way i j }
 {
-    if ways::is_wall(card, east, i, j) {
+    if way.is_wall(flow.card, i, j) {
         return 0;
     }
-    let k = ways::back(east, i);
-    let l = ways::back(!east, j);
-    inner::velocity(card, east, land, state, tide, k, l, still, textbook)
+    let k = way.back_column(i);
+    let l = way.back_row(j);
+    inner::velocity::<E>(flow, way, k, l, still)
 }
 
 // Those of the faces that point one way.
-fn pass(
-    card: Card,
-    east: bool,
-    land: &[i32],
-    state: &[i32],
-    tide: &[i32],
-    marks: &[bool],
-    part: &mut [i32],
-    textbook: bool,
-) -> bool
-    requires { Room card land.now state.now tide.now marks.now (Ways.high card east * Ways.wide card east) part.old }
-    ensures { Filled (all_at (Ways.wide card east) (Ways.high card east) (λ i j. speed_fits (new_speeds (engine textbook) card land.now state.now east i j))) (grid (Ways.wide card east) (Ways.high card east) (new_speeds (engine textbook) card land.now state.now east)) result part.new }
+fn pass<E: Engine>(flow: &Flow, way: Way, marks: &[bool], part: &mut [i32]) -> bool
+    requires { Room flow.now.card flow.now.state.now marks.now (Ways.high flow.now.card way * Ways.wide flow.now.card way) part.old }
+    ensures { Filled (all_at (Ways.wide flow.now.card way) (Ways.high flow.now.card way) (λ i j. speed_fits (flow_speeds (engine E.TEXTBOOK) flow.now way i j)))
+        (grid (Ways.wide flow.now.card way) (Ways.high flow.now.card way) (flow_speeds (engine E.TEXTBOOK) flow.now way)) result part.new }
 {
-    let wide = ways::wide(card, east);
-    let high = ways::high(card, east);
+    // A copy of its own: for all that the compiler knows, a word that is put could lie in the flow that is lent, and each face would have it read again.
+    let own = *flow;
+    let card = own.card;
+    let wide = way.wide(card);
+    let high = way.high(card);
+    // By row and column, the numbers that all that stands around a face takes.
     for j in 0..high {
         // The textbook engine passes over none: when it was tried, with a test for it on every still face, a lake took the first engine a quarter longer.
-        let still = !textbook & still::both_still(card, east, marks, j);
+        let still = !E::TEXTBOOK & still::both_still(card, way, marks, j);
         for i in 0..wide {
-            let u = velocity(card, east, land, state, tide, i, j, still, textbook);
+            let u = velocity::<E>(&own, way, i, j, still);
             if !velocity::speed_fits(u) {
                 return false;
             }
@@ -68,41 +55,14 @@ fn pass(
 }
 
 // Both, in the part of the next state that starts behind the heights. Where one is out of range, nothing is promised of the part's words.
-pub fn velocities(
-    card: Card,
-    land: &[i32],
-    state: &[i32],
-    tide: &[i32],
-    marks: &[bool],
-    part: &mut [i32],
-    textbook: bool,
-) -> bool
-    requires { Room card land.now state.now tide.now marks.now (card.rows * suc card.columns + suc card.rows * card.columns) part.old }
-    ensures { Filled (new_velocities_fit (engine textbook) card (read_ground card land.now) (read_state card state.now)) (next_velocities (engine textbook) card land.now state.now) result part.new }
+pub fn velocities<E: Engine>(flow: &Flow, marks: &[bool], part: &mut [i32]) -> bool
+    requires { Room flow.now.card flow.now.state.now marks.now (flow.now.card.rows * suc flow.now.card.columns + suc flow.now.card.rows * flow.now.card.columns) part.old }
+    ensures { Filled (new_velocities_fit (engine E.TEXTBOOK) flow.now.card (read_ground flow.now.card flow.now.land.now) (read_state flow.now.card flow.now.state.now))
+        (next_velocities (engine E.TEXTBOOK) flow.now.card flow.now.land.now flow.now.state.now) result part.new }
 {
-    let columns = card.columns as usize;
-    let rows = card.rows as usize;
+    let columns = flow.card.columns as usize;
+    let rows = flow.card.rows as usize;
     let faces = rows * (columns + 1);
-    if !pass(
-        card,
-        true,
-        land,
-        state,
-        tide,
-        marks,
-        &mut part[..faces],
-        textbook,
-    ) {
-        return false;
-    }
-    pass(
-        card,
-        false,
-        land,
-        state,
-        tide,
-        marks,
-        &mut part[faces..],
-        textbook,
-    )
+    pass::<E>(flow, Way::East, marks, &mut part[..faces])
+        && pass::<E>(flow, Way::North, marks, &mut part[faces..])
 }

@@ -1,5 +1,4 @@
 pub mod Bounds
-pub mod Laws
 pub mod Quotients
 pub mod Surfaces
 pub mod Slopes

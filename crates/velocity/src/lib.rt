@@ -1,17 +1,17 @@
-// The arithmetic of one face's new velocity, by the first engine or the textbook's: what each function returns is said by definitions of `rules`. Two divisions, none
+// The arithmetic of one face's new velocity, by the first engine or the textbook's (engines.rt): what each function returns is said by definitions of `rules`. Two divisions, none
 // where what it would divide is 0; the textbook's rise takes one more.
 #![tactic(auto)]
 
 pub mod banks;
+pub mod engines;
 mod textbook;
 
 ghost use Rattle.std.specs.Prelude.{◌≡◌, ◌-ℤ◌};
 ghost use Rattle.std.specs.Int.Signed.{quot_z};
 ghost use Rattle.rules.specs.Site.{is_zero, speed_fits};
 ghost use Rattle.rules.specs.Step as step;
-ghost use Rattle.laws.specs.Engines.{rise_of};
 ghost use Rattle.momentum.specs.Fits.{FaceFits};
-ghost use Rattle.velocity.specs.Fits.{InQuotient, WetFace, InVelocity, InSlope, InStillVelocity};
+ghost use Rattle.velocity.specs.Fits.{InQuotient, InVelocity, InSlope, InStillVelocity};
 
 use rules::Face;
 
@@ -36,17 +36,6 @@ fn rise(f: Face) -> i32
     let hl = f.new_l;
     let zl = f.ground_l;
     (hl + zl) - (hk + zk)
-}
-
-// The same by the engine that is asked for. In all else that is worked out the two are one.
-pub fn rise_of(f: Face, textbook: bool) -> i64
-    requires { WetFace f }
-    ensures { result ≡ rise_of textbook f }
-{
-    if textbook {
-        return textbook::rise(f);
-    }
-    rise(f) as i64
 }
 
 // Where both new surfaces stand level there is nothing to multiply and nothing to divide.
@@ -104,12 +93,12 @@ pub fn still_velocity(f: Face, dt: u32, d: u32) -> i64
     if banks::dry_bank(f) {
         return 0;
     }
-    0 - slope(rise as i64, dt, d)
+    -slope(rise as i64, dt, d)
 }
 
 // Whether a new velocity lies in its range.
 pub fn speed_fits(v: i64) -> bool
     ensures { result ≡ speed_fits v }
 {
-    -20000000 <= v && v <= 20000000
+    (-20000000..=20000000).contains(&v)
 }

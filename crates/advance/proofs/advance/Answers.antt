@@ -3,4 +3,4 @@ use Rattle.advance.proofs.Answers.{sound, marks_room}
 use Rattle.advance.proofs.advance.Goals as goal
 
 pub mark-requires : goal.mark-requires
-mark-requires c = marks_room (sound c.requires) c.no_marks-marks.ensures
+mark-requires g c = marks_room (sound c.requires) c.no_marks-marks.ensures

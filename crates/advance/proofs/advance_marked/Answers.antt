@@ -3,10 +3,10 @@ use Rattle.advance.proofs.Answers.{marked_state, limit_broken, limited}
 use Rattle.advance.proofs.advance_marked.Goals as goal
 
 pub limit_kept-requires : goal.limit_kept-requires
-limit_kept-requires c = search marked_state
+limit_kept-requires g c = search marked_state
 
 pub returns-then-not-limit_kept : goal.returns-then-not-limit_kept
-returns-then-not-limit_kept c = search limit_broken
+returns-then-not-limit_kept g c = search limit_broken
 
 pub flow-requires : goal.flow-requires
-flow-requires c = search limited
+flow-requires g c = search limited

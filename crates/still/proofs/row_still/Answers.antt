@@ -9,12 +9,12 @@ use Rattle.still.proofs.row_still.Goals as goal
 
 pub face_still-requires : goal.face_still-requires
 face_still-requires c =
-    let middle : c.wide-wide.result / 2 < wide c.args.card c.args.east = rw c.wide-wide.ensures (middle_in _ _ c.requires.card) in
+    let middle : c.wide-wide.result / 2 < wide c.args.card c.args.way = rw c.wide-wide.ensures (middle_in _ _ c.requires.card) in
     let p = c.requires in record { card = p.card; long = p.long; face = record { column = middle; row = p.row } }
 
 pub returns-then-not-face_still : goal.returns-then-not-face_still
 returns-then-not-face_still c =
-    let middle : c.wide-wide.result / 2 < wide c.args.card c.args.east = rw c.wide-wide.ensures (middle_in _ _ c.requires.card) in
+    let middle : c.wide-wide.result / 2 < wide c.args.card c.args.way = rw c.wide-wide.ensures (middle_in _ _ c.requires.card) in
     row_moves _ _ _ _ _ middle (sym c.face_still.ensures ∙ c.if-not-face_still.true)
 
 pub loop-i-init : goal.loop-i-init

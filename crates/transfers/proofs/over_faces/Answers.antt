@@ -29,7 +29,7 @@ loop-i-init c = begin_row c.loop-j.invariant
 
 pub over_face-crossed-requires : goal.over_face-crossed-requires
 over_face-crossed-requires c =
-    let face : let a = c.args in FaceIn a.card a.east c.loop-i.i c.loop-j.j = record { column = omega (arith, c.wide-wide.ensures); row = omega (arith, c.high-high.ensures) } in
+    let face : let a = c.args in FaceIn a.card a.way c.loop-i.i c.loop-j.j = record { column = omega (arith, c.wide-wide.ensures); row = omega (arith, c.high-high.ensures) } in
     record { limited = c.requires.limited; face = face }
 
 pub put-requires : goal.put-requires
@@ -38,8 +38,8 @@ put-requires c = place c.loop-i.invariant c.loop-j-test.true c.loop-i-test.true
 pub loop-i-preserved : goal.loop-i-preserved
 loop-i-preserved c =
     let a = c.args in
-    let here : FaceIn a.card a.east c.loop-i.i c.loop-j.j = record { column = omega (arith, c.wide-wide.ensures); row = omega (arith, c.high-high.ensures) } in
-    let crossed_is : to_z w32 c.if-still.crossed-bits ≡ transfers a.card (read_state a.card a.state.now) a.east c.loop-i.i c.loop-j.j =
+    let here : FaceIn a.card a.way c.loop-i.i c.loop-j.j = record { column = omega (arith, c.wide-wide.ensures); row = omega (arith, c.high-high.ensures) } in
+    let crossed_is : to_z w32 c.if-still.crossed-bits ≡ transfers a.card (read_state a.card a.state.now) a.way c.loop-i.i c.loop-j.j =
     elim c.if-still.branch [
       | then-still w ↦ w.crossed-is ∙ sym (over_still _ _ _ _ _ (row_at _ _ _ _ _ here.column (near_row (both_rows c.requires.marked _ here.row (sym c.both_still-still.ensures ∙ w.if-still.true)).row_l _)))
       | else-still w ↦ let over = w.over_face-crossed in w.crossed-is ∙ word_is over.result over.type_inv over.ensures
@@ -54,4 +54,4 @@ returns c =
     let long : length c.args.part.now ≡ c.high-high.result * c.wide-wide.result = c.requires.long ∙ sym (ap₂ ◌*◌ c.high-high.ensures c.wide-wide.ensures) in
     let a = c.args in
     done c.loop-j.invariant c.loop-j-test.false long
-    ∙ ap₂ (λ (m n : ℕ). grid m n (transfers a.card (read_state a.card a.state.now) a.east)) c.wide-wide.ensures c.high-high.ensures
+    ∙ ap₂ (λ (m n : ℕ). grid m n (transfers a.card (read_state a.card a.state.now) a.way)) c.wide-wide.ensures c.high-high.ensures

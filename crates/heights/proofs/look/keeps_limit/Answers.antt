@@ -1,6 +1,6 @@
 -- `keeps_limit`: the four words that are read are the cell's velocities, each in its range, and the test over them is the limit.
 use mathlib.Core.Path.{◌≡◌, ◌∙◌, ap}
-use mathlib.Core.Bool.{Bool, true, false}
+use mathlib.Core.Bool.{Bool}
 use mathlib.Core.List.{List}
 use Prim.Native.Nat.{ℕ, suc, ◌+◌, ◌*◌}
 use lib.IntN.{ℤ}
@@ -12,6 +12,7 @@ use Rattle.rules.specs.Site.{read_state}
 use Rattle.rules.specs.Step.{forward, backward, within_limit}
 use Rattle.laws.specs.Signed.{small_is, small_within}
 use Rattle.face.specs.Ranges.{InLimit}
+use Rattle.layout.specs.declared.ways.Way.TheVariants.{East, North}
 use Rattle.layout.specs.declared.cells.Cell.{Cell}
 use Rattle.layout.specs.Cells.{cell_at}
 use Rattle.transfers.specs.Known.{SoundState}
@@ -28,13 +29,13 @@ module _ {c : Card} {s : List ℤ} (i j : ℕ) (cell : Cell) (sound : SoundState
   unfolding side speeds cell_at
   in_limit =
       record {
-        west = small_within cell.west (ap (λ (x : Cell). x.west) is) (speed_fits_lem sound true i j) tt;
-        east = small_within cell.east (ap (λ (x : Cell). x.east) is) (speed_fits_lem sound true (suc i) j) tt;
-        south = small_within cell.south (ap (λ (x : Cell). x.south) is) (speed_fits_lem sound false i j) tt;
-        north = small_within cell.north (ap (λ (x : Cell). x.north) is) (speed_fits_lem sound false i (suc j)) tt;
+        west = small_within cell.west (ap (λ (x : Cell). x.west) is) (speed_fits_lem sound East i j) tt;
+        east = small_within cell.east (ap (λ (x : Cell). x.east) is) (speed_fits_lem sound East (suc i) j) tt;
+        south = small_within cell.south (ap (λ (x : Cell). x.south) is) (speed_fits_lem sound North i j) tt;
+        north = small_within cell.north (ap (λ (x : Cell). x.north) is) (speed_fits_lem sound North i (suc j)) tt;
         time = time sound;
-        side_x = side_fits sound true;
-        side_y = side_fits sound false;
+        side_x = side_fits sound East;
+        side_y = side_fits sound North;
       }
 
   limit_is : {kept : Bool}
@@ -44,10 +45,10 @@ module _ {c : Card} {s : List ℤ} (i j : ℕ) (cell : Cell) (sound : SoundState
   limit_is e =
       e
       ∙ rw (
-        small_is cell.west (ap (λ (x : Cell). x.west) is) (speed_fits_lem sound true i j) tt,
-        small_is cell.east (ap (λ (x : Cell). x.east) is) (speed_fits_lem sound true (suc i) j) tt,
-        small_is cell.south (ap (λ (x : Cell). x.south) is) (speed_fits_lem sound false i j) tt,
-        small_is cell.north (ap (λ (x : Cell). x.north) is) (speed_fits_lem sound false i (suc j)) tt,
+        small_is cell.west (ap (λ (x : Cell). x.west) is) (speed_fits_lem sound East i j) tt,
+        small_is cell.east (ap (λ (x : Cell). x.east) is) (speed_fits_lem sound East (suc i) j) tt,
+        small_is cell.south (ap (λ (x : Cell). x.south) is) (speed_fits_lem sound North i j) tt,
+        small_is cell.north (ap (λ (x : Cell). x.north) is) (speed_fits_lem sound North i (suc j)) tt,
       )
 
 pub cell_at-cell-requires : goal.cell_at-cell-requires

@@ -1,6 +1,5 @@
 use mathlib.Core.Path.{◌∙◌}
 use Rattle.rules.specs.Site.{write_state}
-use Rattle.rules.specs.Step.{new_height}
 use Rattle.laws.specs.Signed.{word_is}
 use Rattle.laws.specs.Passes.{begin, begin_row, place, more, more_rows, done_front}
 use Rattle.laws.specs.Places.{room}

@@ -2,7 +2,6 @@
 use Rattle.rules.specs.Site.{read_state}
 use Rattle.rules.specs.Step.{new_height}
 use Rattle.laws.specs.Passes.{Rows, Cells}
-use Rattle.transfers.specs.Tide.{tide}
 use Rattle.heights.proofs.tide.heights.Given as goal
 
 abbrev pub invariant-loop-i : goal.invariant-loop-i

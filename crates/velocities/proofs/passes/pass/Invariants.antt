@@ -6,7 +6,7 @@ use Rattle.velocities.specs.Velocities.{new_speeds}
 use Rattle.velocities.proofs.passes.pass.Given as goal
 
 abbrev pub invariant-loop-i : goal.invariant-loop-i
-invariant-loop-i l = CellsTested l.wide (new_speeds (engine l.textbook) l.card l.land l.state l.east) speed_fits l.high l.j l.initial.part l.part l.i
+invariant-loop-i g l = CellsTested l.wide (new_speeds (engine g.E.Engine.TEXTBOOK) l.flow.card l.flow.land.now l.flow.state.now l.way) speed_fits l.high l.j l.initial.part l.part l.i
 
 abbrev pub invariant-loop-j : goal.invariant-loop-j
-invariant-loop-j l = RowsTested l.wide (new_speeds (engine l.textbook) l.card l.land l.state l.east) speed_fits l.high l.initial.part l.part l.j
+invariant-loop-j g l = RowsTested l.wide (new_speeds (engine g.E.Engine.TEXTBOOK) l.flow.card l.flow.land.now l.flow.state.now l.way) speed_fits l.high l.initial.part l.part l.j

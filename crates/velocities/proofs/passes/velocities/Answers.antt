@@ -15,27 +15,27 @@ use Rattle.velocities.specs.Velocities.{new_speeds, next_velocities}
 use Rattle.velocities.proofs.passes.velocities.Goals as goal
 
 pub slice_bounds-pass-end-2 : goal.slice_bounds-pass-end-2
-slice_bounds-pass-end-2 c = sym (length-take-le _ _ (omega arith))
+slice_bounds-pass-end-2 g c = sym (length-take-le _ _ (omega arith))
 
 pub pass-requires : goal.pass-requires
 unfolding wide high
-pass-requires c =
-    let card = c.args.card in
+pass-requires g c =
+    let card = c.args.flow.now.card in
     let within : card.rows * (card.columns + 1) ≤ length c.args.part.now = omega arith in
-    record { flowing = c.requires.flowing; marked = c.requires.marked; long = length_part (card.rows * (card.columns + 1)) c.args.part.now within (omega arith) }
+    record { marked = c.requires.marked; long = length_part (card.rows * (card.columns + 1)) c.args.part.now within (omega arith) }
 
-pub returns-then-not-pass : goal.returns-then-not-pass
+pub returns-else-pass : goal.returns-else-pass
 unfolding new_velocities_fit new_speeds wide high
-returns-then-not-pass c = first_left _ c.pass.ensures (c.if-not-pass.true)
+returns-else-pass g c = filled_told (first_left _ c.pass.ensures c.if-pass.false) c.if-pass.false
 
-pub pass-requires-2 : goal.pass-requires-2
+pub pass-requires-then-pass : goal.pass-requires-then-pass
 unfolding wide high
-pass-requires-2 c = let p = c.requires in record { flowing = p.flowing; marked = p.marked; long = search rules }
+pass-requires-then-pass g c = let p = c.requires in record { marked = p.marked; long = search rules }
 
-pub returns : goal.returns
+pub returns-then-pass : goal.returns-then-pass
 unfolding new_velocities_fit next_velocities new_speeds wide high
-returns c =
-    let card = c.args.card in
+returns-then-pass g c =
+    let card = c.args.flow.now.card in
     let long : card.rows * suc card.columns ≡ card.rows * (card.columns + 1) = omega arith in
-    both_filled c.pass.ensures c.if-not-pass.false (filled_told c.pass-2.ensures (search (or-false, rules)))
+    both_filled c.pass.ensures c.if-pass.true (filled_told c.pass-then-pass.ensures (search (or-false, rules)))
     (λ first last. two_parts _ _ first last (length-grid _ _ _ ∙ long))
