@@ -1,2 +1,1 @@
 pub mod Drafts
-pub mod PumpedDrafts

@@ -4,33 +4,29 @@
 ghost use Rattle.std.specs.Prelude.{◌≡◌, cond};
 ghost use Rattle.rules.specs.Site.{read_state};
 ghost use Rattle.rules.specs.Step.{limit_kept};
+ghost use Rattle.rules.specs.Refusals.{refusal_number};
 ghost use Rattle.transfers.specs.Known.{SoundState};
 ghost use Rattle.laws.specs.Engines.{engine};
 ghost use Rattle.pumped.specs.Moved.{PumpedRoom, PumpedAdvanced};
 
-use rules::Card;
+use pumps::Acted;
+use rules::{Card, Refusal};
+use velocity::engines::Engine;
 
-// What a pumped step did: its number, and how much the pumps added and took where that is 0.
-#[derive(Clone, Copy)]
-pub struct Moved {
-    pub number: u32,
-    pub added: u64,
-    pub taken: u64,
-}
-
-// The number of a step whose inlets pass the top: a broken step limit comes first.
-fn over_the_top(card: Card, state: &[i32]) -> u32
+// The refusal of a step whose inlets pass the top: a broken step limit comes first.
+fn over_the_top(card: Card, state: &[i32]) -> Refusal
     requires { SoundState card state.now }
-    ensures { result ≡ cond (limit_kept card (read_state card state.now)) 5 4 }
+    ensures { refusal_number result ≡ cond (limit_kept card (read_state card state.now)) 5 4 }
 {
     if advance::limit_kept(card, state) {
-        return 5;
+        return Refusal::TooHigh;
     }
-    4
+    Refusal::StepLimit
 }
 
-// The pumped step. Where its number is 0, `next` is the next state; otherwise the state is as it was, and nothing is promised of the words of `next`.
-pub fn pumped_advance(
+// The pumped step: how much the pumps added and took, or its refusal. Where it is done, `next` is the next state; otherwise the state is as it was, and nothing is
+// promised of the words of `next`.
+pub fn pumped_advance<E: Engine>(
     card: Card,
     land: &[i32],
     state: &mut [i32],
@@ -38,26 +34,16 @@ pub fn pumped_advance(
     found: &mut [i32],
     tide: &mut [i32],
     next: &mut [i32],
-    textbook: bool,
-) -> Moved
+) -> Result<Acted, Refusal>
     requires { PumpedRoom card land.now state.old pumps.now found.old tide.old next.old }
-    ensures { PumpedAdvanced (engine textbook) card land.now pumps.now state.old result state.new next.new }
+    ensures { PumpedAdvanced (engine E.TEXTBOOK) card land.now pumps.now state.old result state.new next.new }
 {
-    let acted = pumps::pump(state, pumps, found);
-    if !acted.fits {
-        return Moved {
-            number: over_the_top(card, state),
-            added: 0,
-            taken: 0,
-        };
-    }
-    let number = advance::advance(card, land, state, tide, next, textbook);
-    if number != 0 {
+    let Some(acted) = pumps::pump(state, pumps, found) else {
+        return Err(over_the_top(card, state));
+    };
+    if let Err(refusal) = advance::advance::<E>(card, land, state, tide, next) {
         pumps::undo(state, pumps, found, pumps.len() / 2);
+        return Err(refusal);
     }
-    Moved {
-        number: number,
-        added: acted.added,
-        taken: acted.taken,
-    }
+    Ok(acted)
 }

@@ -1,6 +1,7 @@
 pub mod Amounts
-pub mod Cells
+pub mod AtCell
 pub mod Checks
 pub mod Found
 pub mod SoFar
+pub mod Turns
 pub mod Undoing

@@ -12,12 +12,11 @@ use lib.ListN.{length, set, length-set}
 use lib.Dec.{T, not_T}
 use Rattle.rules.specs.Grid.{all}
 use Rattle.rules.specs.Pumps.{pump_at, pump_count, pump_fits, adds, takes, height_after, height_at, after_pump, after_pumps, adds_up_to, takes_up_to, turn_fits, inlets_fit, pumped, added_by, taken_by}
-use Rattle.laws.specs.Sizes.{Within}
 use Rattle.laws.specs.Tests.{to_T, true_of}
 use Rattle.laws.specs.Grids.{all_at_lem, all_none, all_more, all_broken, all_end}
 use Rattle.laws.specs.Facts.{Sound, sound_facts}
-use Rattle.laws.specs.Pumped.{pump_facts, each_fits, length_afters, sound_afters, adds_most, takes_most}
-use Rattle.pumps.specs.Acting.{Pumpable, Pumped, Undoable, back}
+use Rattle.laws.specs.Pumped.{pump_facts, each_fits, sound_afters, adds_most, takes_most}
+use Rattle.pumps.specs.Acting.{Turning, Pumpable, AllActed, AllUndone, Undoable, back}
 use Rattle.pumps.proofs.Found.{back_more}
 
 pub record SoFar (s₀ ps found₀ s found : List ℤ) (added taken k : ℕ) : Type 0 where
@@ -37,9 +36,8 @@ none_yet = record { most = zero-le; long = refl; is = refl; adds_is = refl; take
 pub record AtTurn (ps s : List ℤ) (k : ℕ) : Type 0 where
   pub whole : (pump_at ps k).cell ≡ pos (nat_abs (pump_at ps k).cell)
   pub place : nat_abs (pump_at ps k).cell < length s
-  pub amount : Within 1000000 (pump_at ps k).amount
-  pub height_low : T (le_z (pos 0) (height_at (pump_at ps k) s))
-  pub height_size : Within 50000000 (height_at (pump_at ps k) s)
+  pub long : length s ≤ 49408
+  pub turning : Turning (pump_at ps k) (height_at (pump_at ps k) s)
 
 module _ {s₀ ps found₀ s found : List ℤ} {added taken k : ℕ} (p : Pumpable s₀ ps found₀) (t : SoFar s₀ ps found₀ s found added taken k) where
   fits : (j : ℕ) → j < k → T (pump_fits p.card (pump_at ps j))
@@ -55,13 +53,9 @@ module _ {s₀ ps found₀ s found : List ℤ} {added taken k : ℕ} (p : Pumpab
       record {
         whole = f.whole;
         place = omega (arith, f.place, now.lengths.heights);
-        amount = record { size = f.amount };
-        height_low = now.height_low _ f.place;
-        height_size = record { size = now.height_high _ f.place };
+        long = omega (arith, now.lengths.state, now.card.state_high);
+        turning = record { amount = record { size = f.amount }; height_low = now.height_low _ f.place; height_size = record { size = now.height_high _ f.place } };
       }
-
-  pub long_state : length s ≡ length s₀
-  long_state = rw t.is (length_afters p.card ps k s₀)
 
   pub few_so_far : k ≤ 64
   few_so_far = omega (arith, t.most, p.few)
@@ -103,29 +97,21 @@ module _ {s₀ ps found₀ s found : List ℤ} {added taken k : ℕ} (t : SoFar 
         fit = all_more k (turn_fits ps s₀) t.fit (subst T top_is (lt_z_no {a = pos 50000000} {b = after} (to_T (ap not top))).le);
       }
 
-  pub one_fails : lt_z (pos 50000000) after ≡ true → {s' found' : List ℤ} → s' ≡ back ps found k s → {a t' : ℕ} → Pumped ps s₀ (record { fits = false; added = a; taken = t' }) s' found'
+  pub one_fails : lt_z (pos 50000000) after ≡ true → {s' : List ℤ} → s' ≡ back ps found k s → AllUndone ps s₀ s'
   unfolding inlets_fit
   one_fails top e =
       let no : inlets_fit ps s₀ ≡ false = all_broken (pump_count ps) (turn_fits ps s₀) k h (subst (λ (b : Bool). T (not b)) top_is (not_T (le_z after (pos 50000000)) (λ y. clash_ℤ {a = pos 50000000} {b = after} (lt_z_yes (to_T top)) (le_z_yes y)))) in
-      record {
-        fits = sym no;
-        state = λ y. absurd (subst T (sym y) tt);
-        added = λ y. absurd (subst T (sym y) tt);
-        taken = λ y. absurd (subst T (sym y) tt);
-        undone = λ y. absurd (subst T (sym y) tt);
-        as_it_was = λ y. e ∙ t.undone;
-      }
+      record { past = no; as_it_was = e ∙ t.undone }
 
 pub all_done : {s₀ ps found₀ s found : List ℤ} {added taken k : ℕ} → SoFar s₀ ps found₀ s found added taken k → pump_count ps ≤ k
-    → Pumped ps s₀ (record { fits = true; added = added; taken = taken }) s found
+    → AllActed ps s₀ (record { added = added; taken = taken }) s found
 unfolding inlets_fit pumped added_by taken_by
 all_done {s₀} {ps} {found₀} {s} {found} {added} {taken} {k} t h =
     let all_turns : k ≡ pump_count ps = le_antisymm t.most h in
     record {
-      fits = sym (true_of _ (all_end (pump_count ps) k (turn_fits ps s₀) t.most h t.fit));
-      state = λ y. t.is ∙ ap (λ (n : ℕ). after_pumps ps n s₀) all_turns;
-      added = λ y. t.adds_is ∙ ap (adds_up_to ps) all_turns;
-      taken = λ y. t.takes_is ∙ ap (takes_up_to ps s₀) all_turns;
-      undone = λ y. ap (λ (n : ℕ). back ps found n s) (sym all_turns) ∙ t.undone;
-      as_it_was = λ n. absurd (subst T n tt);
+      fits = true_of _ (all_end (pump_count ps) k (turn_fits ps s₀) t.most h t.fit);
+      state = t.is ∙ ap (λ (n : ℕ). after_pumps ps n s₀) all_turns;
+      added = t.adds_is ∙ ap (adds_up_to ps) all_turns;
+      taken = t.takes_is ∙ ap (takes_up_to ps s₀) all_turns;
+      undone = ap (λ (n : ℕ). back ps found n s) (sym all_turns) ∙ t.undone;
     }

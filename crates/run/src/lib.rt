@@ -3,56 +3,26 @@
 
 ghost use Rattle.rules.specs.PublicContracts.{RunContract};
 ghost use Rattle.laws.specs.PumpChecks.{SoundPumpedWith};
-ghost use Rattle.run.specs.Roomy.{Roomy, Small};
+ghost use Rattle.run.specs.Roomy.{Roomy};
 
 use rules::{Card, Tally};
 
-// The steps of a run with a tide that may be longer, and with the scratch list all zero at the end.
-fn run_in(
+// A run over a tide of N words, which holds the state, and with the scratch list all zero at the end.
+fn run_on<const N: usize>(
     card: Card,
     land: &[i32],
     state: &mut [i32],
     pumps: &[i32],
     scratch: &mut [i32],
-    tide: &mut [i32],
 ) -> Tally
-    requires { Roomy card land.now state.old pumps.now scratch.old tide.old }
+    requires { Roomy N card land.now state.old pumps.now scratch.old }
     ensures { RunContract card land.now state.old pumps.now scratch.old result state.new scratch.new }
 {
+    let mut tide = [0; N];
     let n = state.len();
     let tally = steps::steps(card, land, state, pumps, scratch, &mut tide[..n]);
-    lists::clear(scratch);
+    scratch.fill(0);
     tally
-}
-
-// A run over a short tide, which holds any site of at most 32×32 cells.
-fn small_run(
-    card: Card,
-    land: &[i32],
-    state: &mut [i32],
-    pumps: &[i32],
-    scratch: &mut [i32],
-) -> Tally
-    requires { Small card land.now state.old pumps.now scratch.old }
-    ensures { RunContract card land.now state.old pumps.now scratch.old result state.new scratch.new }
-{
-    let mut tide = lists::short();
-    run_in(card, land, state, pumps, scratch, &mut tide)
-}
-
-// A run over a tide that holds any site.
-fn large_run(
-    card: Card,
-    land: &[i32],
-    state: &mut [i32],
-    pumps: &[i32],
-    scratch: &mut [i32],
-) -> Tally
-    requires { SoundPumpedWith card land.now state.old pumps.now scratch.old }
-    ensures { RunContract card land.now state.old pumps.now scratch.old result state.new scratch.new }
-{
-    let mut tide = lists::longest();
-    run_in(card, land, state, pumps, scratch, &mut tide)
 }
 
 // A run over a tide that has room for so many words; where the state has more, it calls itself for the longest tide. As in a step, this keeps the tide out of
@@ -72,20 +42,19 @@ fn run_within(
         return run_within(card, land, state, pumps, scratch, 49408);
     }
     if room <= 3136 {
-        return small_run(card, land, state, pumps, scratch);
+        return run_on::<3136>(card, land, state, pumps, scratch);
     }
-    large_run(card, land, state, pumps, scratch)
+    run_on::<49408>(card, land, state, pumps, scratch)
 }
 
 // A run: its tally, the last accepted state in the place of the first, and the scratch list all zero. Reasons 1 to 3 leave both lists as they were lent.
 pub fn run(card: Card, land: &[i32], state: &mut [i32], pumps: &[i32], scratch: &mut [i32]) -> Tally
     ensures { RunContract card land.now state.old pumps.now scratch.old result state.new scratch.new }
 {
-    let refusal = pumps::check(card, land, state, pumps, scratch.len());
-    if refusal != 0 {
+    if let Err(refusal) = pumps::check(card, land, state, pumps, scratch.len()) {
         return Tally {
             steps: 0,
-            reason: refusal,
+            reason: u32::from(refusal),
             top: 0,
             added: 0,
             taken: 0,

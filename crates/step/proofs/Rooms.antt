@@ -9,6 +9,8 @@ use lib.Dec.{T, leb, leb→le}
 use lib.IntN.{ℤ}
 use lib.ListN.{length}
 use Rattle.rules.specs.declared.Card.{Card}
+use Rattle.rules.specs.declared.refusals.Refusal.{Refusal}
+use Rattle.rules.specs.Refusals.{refusal_number}
 use Rattle.rules.specs.Site.{if_done}
 use Rattle.rules.specs.Step.{Rule}
 use Rattle.rules.specs.Run.{Stepping, site_step_by}
@@ -17,9 +19,9 @@ use Rattle.rules.specs.Calls.{step_answer_by, step_next_by}
 use Rattle.rules.specs.PublicContracts.{StepContractBy}
 use Rattle.laws.specs.Facts.{SoundWith, sound_facts}
 use Rattle.laws.specs.PumpedSteps.{no_pumps}
+use Rattle.laws.specs.Refusing.{number-ne0}
 use Rattle.laws.specs.Outcomes.{first_refused, first_passed, if_refused}
-use Rattle.draft.specs.Draft.{PumpedDrafting, Handed}
-use Rattle.step.specs.Held.{PumpedHeld}
+use Rattle.draft.specs.Draft.{Handed}
 
 -- no state is longer than the longest
 pub room_few : (c : Card) (g s n : List ℤ) → SoundWith c g s n → length n ≤ 49408
@@ -35,11 +37,12 @@ room_grows room {long} h most = pick (leb room 800) (leb→le room 800)
 
 module _ {rule : Rule} {c : Card} {g s ps n : List ℤ} {r : ℕ} where
   -- 1 to 3: the next state as lent
-  pub refused_early : r ≡ check_pumped_with c g s ps (length n) → (r ≡ 0 → ⊥) → StepContractBy rule c g s ps n r n
+  pub refused_early : (refusal : Refusal) → r ≡ refusal_number refusal → refusal_number refusal ≡ check_pumped_with c g s ps (length n) → StepContractBy rule c g s ps n r n
   unfolding step_next_by step_answer_by
-  refused_early e h =
-      let k : r ≡ step_answer_by rule c g s ps n = e ∙ sym (first_refused (check_pumped_with c g s ps (length n)) ((pumped_step_by rule c g ps).number s) (λ z. h (e ∙ z))) in
-      record { answer = k; next_exit = sym (if_refused (step_answer_by rule c g s ps n) ((pumped_step_by rule c g ps).next s) n (λ z. h (k ∙ z))) }
+  refused_early refusal is e =
+      let h : refusal_number refusal ≡ 0 → ⊥ = number-ne0 refusal in
+      let k : r ≡ step_answer_by rule c g s ps n = is ∙ e ∙ sym (first_refused (check_pumped_with c g s ps (length n)) ((pumped_step_by rule c g ps).number s) (λ z. h (e ∙ z))) in
+      record { answer = k; next_exit = sym (if_refused (step_answer_by rule c g s ps n) ((pumped_step_by rule c g ps).next s) n (λ z. h (sym is ∙ k ∙ z))) }
 
   -- else what the pumped step hands over
   pub handed_over : {m : List ℤ} → check_pumped_with c g s ps (length n) ≡ 0 → Handed (pumped_step_by rule c g ps) s n r m → StepContractBy rule c g s ps n r m
@@ -52,11 +55,3 @@ module _ {rule : Rule} {c : Card} {g s ps n : List ℤ} {r : ℕ} where
 pub none_handed : (rule : Rule) (c : Card) (g s ps n : List ℤ) {m : List ℤ} {r : ℕ} → length ps ≡ 0 → Handed (site_step_by rule c g) s n r m → Handed (pumped_step_by rule c g ps) s n r m
 none_handed rule c g s [] n {m} {r} z d = subst (λ (step : Stepping). Handed step s n r m) (sym (no_pumps rule c g)) d
 none_handed rule c g s (x ∷ ps) n z d = absurd (suc-ne-zero (length ps) z)
-
--- what lists of one size give a pumped step
-pub pumped_drafting : {room : ℕ} {c : Card} {g s ps n : List ℤ} → PumpedHeld room c g s ps n → (copy t d : List ℤ) → length copy ≡ room → length t ≡ room → length d ≡ room → PumpedDrafting c g s ps copy t d n
-pumped_drafting h copy t d p q r = record {
-  drafting = record { site = h.site.site; tide = omega (arith, h.few, q); draft = omega (arith, h.few, r) };
-  pumps = h.site.pumps;
-  copy_room = omega (arith, h.few, p);
-}

@@ -1,4 +1,4 @@
--- What a step on lists of one size requires: a sound site whose state they hold.
+-- What a step on lists of one size, which is at most the longest, requires: a sound site whose state they hold.
 use Rattle.std.specs.Prelude.{List, ℕ, ◌≤◌, ℤ, length}
 use Rattle.rules.specs.declared.Card.{Card}
 use Rattle.laws.specs.Facts.{SoundWith}
@@ -8,8 +8,10 @@ use Rattle.laws.specs.PumpChecks.{SoundPumpedWith}
 pub record Held (room : ℕ) (c : Card) (g s n : List ℤ) : Type 0 where
   pub site : SoundWith c g s n
   pub few : length n ≤ room
+  pub most : room ≤ 49408
 
 -- with its pumps
 pub record PumpedHeld (room : ℕ) (c : Card) (g s ps n : List ℤ) : Type 0 where
   pub site : SoundPumpedWith c g s ps n
   pub few : length n ≤ room
+  pub most : room ≤ 49408

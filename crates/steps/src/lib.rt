@@ -4,6 +4,7 @@
 ghost use Rattle.steps.specs.Running.{RunRoom, Ended, told_run};
 
 use rules::{Card, Tally};
+use velocity::engines::First;
 
 // All steps that are wanted, or as many as are accepted, of a sound site. Pumps act on the state itself, and each next state is made in the scratch list.
 pub fn steps(
@@ -18,8 +19,7 @@ pub fn steps(
     ensures { Ended (told_run card land.now state.old pumps.now) result state.new }
 {
     let cells = card::cells(card);
-    let wanted = card.steps;
-    let mut found = pumps::no_heights();
+    let mut found = [0; 64];
     let mut tally = Tally {
         steps: 0,
         reason: 0,
@@ -27,18 +27,19 @@ pub fn steps(
         added: 0,
         taken: 0,
     };
-    let mut done: u32 = 0;
-    while done < wanted {
-        let moved = pumped::pumped_advance(
-            card, land, state, pumps, &mut found, tide, scratch, false,
+    for _ in 0..card.steps {
+        let moved = pumped::pumped_advance::<First>(
+            card, land, state, pumps, &mut found, tide, scratch,
         );
-        if moved.number != 0 {
-            tally.reason = moved.number;
-            return tally;
-        }
-        lists::renew(state, scratch, moved.number);
-        tally = tally.accept(lists::greatest(state, cells), moved.added, moved.taken);
-        done += 1;
+        let acted = match moved {
+            Ok(acted) => acted,
+            Err(refusal) => {
+                tally.reason = u32::from(refusal);
+                return tally;
+            }
+        };
+        state.copy_from_slice(scratch);
+        tally = tally.accept(lists::greatest(state, cells), acted.added, acted.taken);
     }
     tally
 }

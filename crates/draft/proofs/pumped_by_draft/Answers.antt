@@ -1,27 +1,28 @@
--- `pumped_by_draft`: the front of the copy is the state once it is copied there, and the next state is renewed only where the number is 0.
-use mathlib.Core.Path.{sym}
-use borrow.Author.Rules.{rules}
-use Rattle.draft.proofs.Drafts.{tide_part, draft_part}
-use Rattle.draft.proofs.PumpedDrafts.{copy_part, copy_fits, front_long, pumped_room, pumped_handed}
+-- `pumped_by_draft`: the state is copied to the front of the copy; a refused step hands nothing over, and one that is done the next state, from the front of the draft.
+use Rattle.std.proofs.Common.{rules, ◌≡◌, ◌∙◌, ap, arith}
+use lib.Seq.{length-take-le}
+use Rattle.rules.specs.Pumps.{pumped_step_by}
+use Rattle.laws.specs.Engines.{engine}
+use Rattle.laws.specs.Facts.{sound_facts}
+use Rattle.draft.proofs.Drafts.{handed, nothing_handed}
 use Rattle.draft.proofs.pumped_by_draft.Goals as goal
 
-pub slice_bounds-copy-end-2 : goal.slice_bounds-copy-end-2
-slice_bounds-copy-end-2 c = sym (copy_part c.requires)
+pub copy_from_slice-requires : goal.copy_from_slice-requires
+copy_from_slice-requires g c =
+    let site = c.requires.drafting.site in
+    omega (arith, length-take-le _ c.args.copy.now c.requires.copy_room, site.long, (sound_facts _ _ _ site.sound).lengths.state)
 
-pub copy-requires : goal.copy-requires
-copy-requires c = copy_fits c.requires
-
-pub slice_bounds-pumped_advance-end-2 : goal.slice_bounds-pumped_advance-end-2
-slice_bounds-pumped_advance-end-2 c = sym (front_long c.requires _ c.copy.ensures)
-
-pub slice_bounds-pumped_advance-end-5 : goal.slice_bounds-pumped_advance-end-5
-slice_bounds-pumped_advance-end-5 c = sym (tide_part c.requires.drafting)
-
-pub slice_bounds-pumped_advance-end-7 : goal.slice_bounds-pumped_advance-end-7
-slice_bounds-pumped_advance-end-7 c = sym (draft_part c.requires.drafting)
-
-pub pumped_advance-moved-requires : goal.pumped_advance-moved-requires
-pumped_advance-moved-requires c = pumped_room c.requires _ c.copy.ensures c.no_heights-found.ensures
+pub returns-in_err-pumped_advance : goal.returns-in_err-pumped_advance
+returns-in_err-pumped_advance g c =
+    let a = c.args in
+    let step = pumped_step_by (engine g.E.Engine.TEXTBOOK) a.card a.land.now a.pumps.now in
+    let copied : c.copy_from_slice.new.self ≡ a.state.now = search rules in
+    nothing_handed c.in_err-pumped_advance.field-0.0 (search rules) (c.in_err-pumped_advance.ensures.number ∙ ap step.number copied)
 
 pub returns : goal.returns
-returns c = pumped_handed c.requires _ c.copy.ensures c.pumped_advance-moved.ensures (search rules) c.renew.ensures
+returns g c =
+    let a = c.args in
+    let step = pumped_step_by (engine g.E.Engine.TEXTBOOK) a.card a.land.now a.pumps.now in
+    let copied : c.copy_from_slice.new.self ≡ a.state.now = search rules in
+    let done = c.in_ok-pumped_advance.ensures in
+    handed (done.number ∙ ap step.number copied) (c.copy_from_slice-2.ensures.after ∙ done.state ∙ ap step.next copied)

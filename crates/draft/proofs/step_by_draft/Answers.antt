@@ -1,20 +1,10 @@
--- `step_by_draft`: the step is worked out in the fronts of tide and draft, and the next state is renewed only where the number is 0.
-use mathlib.Core.Path.{sym}
-use borrow.Author.Rules.{rules}
-use Rattle.draft.proofs.Drafts.{tide_part, draft_part, state_room, step_room, front, advanced_handed}
+-- `step_by_draft`: a refused step hands nothing over, and one that is done the next state, from the front of the draft.
+use Rattle.std.proofs.Common.{rules, ◌∙◌, refl}
+use Rattle.draft.proofs.Drafts.{handed, nothing_handed, front}
 use Rattle.draft.proofs.step_by_draft.Goals as goal
 
-pub slice_bounds-advance-end-2 : goal.slice_bounds-advance-end-2
-slice_bounds-advance-end-2 c = sym (tide_part c.requires)
-
-pub slice_bounds-advance-end-4 : goal.slice_bounds-advance-end-4
-slice_bounds-advance-end-4 c = sym (draft_part c.requires)
-
-pub advance-number-requires : goal.advance-number-requires
-advance-number-requires c = step_room c.requires
-
-pub renew-requires : goal.renew-requires
-renew-requires c = search (rules, state_room)
+pub returns-in_err-advance : goal.returns-in_err-advance
+returns-in_err-advance g c = nothing_handed c.in_err-advance.field-0.0 (search rules) c.in_err-advance.ensures.number
 
 pub returns : goal.returns
-returns c = advanced_handed _ c.renew.ensures (search front)
+returns g c = handed c.in_ok-advance.ensures.number (c.copy_from_slice.ensures.after ∙ front c.args.draft.now _ c.advance.auto.next c.requires.draft ∙ c.in_ok-advance.ensures.state refl)

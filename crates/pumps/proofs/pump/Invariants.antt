@@ -3,4 +3,4 @@ use Rattle.pumps.proofs.SoFar.{SoFar}
 use Rattle.pumps.proofs.pump.Given as goal
 
 abbrev pub invariant-loop-k : goal.invariant-loop-k
-invariant-loop-k l = SoFar l.initial.state l.pumps l.initial.found l.state l.found l.added l.taken l.k
+invariant-loop-k l = SoFar l.initial.state l.pumps l.initial.found l.state l.found l.acted.added l.acted.taken l.k

@@ -1,26 +1,30 @@
-use Prim.Native.Nat.{zero-le}
-use mathlib.Core.Path.{sym, ap, ◌∙◌}
-use mathlib.Core.Bool.{not}
-use native.Mathlib.Omega.{arith}
-use Rattle.rules.specs.Pumps.{pump_at, pump_count, pump_fits, pumps_fit}
-use Rattle.laws.specs.Tests.{true_of, to_T}
-use Rattle.laws.specs.Grids.{all_none, all_more, all_broken, all_end}
+-- `pumps_fit`: every pump of the list fits, or one does not.
+use Rattle.std.proofs.Common.{rules, arith, sym, ◌≡◌, ℕ, ◌/◌, ◌<◌, Bool, true, false, subst, zero-le, length}
+use Rattle.std.specs.Bool.{MatchBool}
+use Rattle.std.specs.List.{AllWithin, HoldsAt, range_with_len}
+use Rattle.std.proofs.lemmas.List.FromFn.{length-range_with_len, get_or-range_with_len}
+use Rattle.std.proofs.lemmas.Iterator.{cases_from_all, YieldsList-from_range}
+use Rattle.rules.specs.Grid.{all}
+use Rattle.rules.specs.Pumps.{pumps_fit, pump_fits, pump_at}
+use Rattle.laws.specs.Tests.{to_T, true_of}
+use Rattle.laws.specs.Grids.{all_intro, all_broken}
 use Rattle.pumps.proofs.pumps_fit.Goals as goal
 
-pub loop-k-init : goal.loop-k-init
-loop-k-init c = (zero-le, all_none _)
-
-pub pump_fits-requires : goal.pump_fits-requires
-pump_fits-requires c = record { card = c.requires; held = c.loop-k-test.true }
-
-pub returns-then-not-pump_fits : goal.returns-then-not-pump_fits
-unfolding pumps_fit
-returns-then-not-pump_fits c = sym (all_broken (pump_count c.args.pumps.now) (λ k. pump_fits c.args.card (pump_at c.args.pumps.now k)) _ c.loop-k-test.true
-    (to_T (ap not (sym c.pump_fits.ensures ∙ c.if-not-pump_fits.true))))
-
-pub loop-k-preserved : goal.loop-k-preserved
-loop-k-preserved c = (omega arith, all_more _ _ c.loop-k.invariant.1 (to_T (sym c.pump_fits.ensures ∙ c.if-not-pump_fits.false)))
+-- what the chain says of the numbers below n
+told : (n : ℕ) (p : ℕ → Bool) (r : Bool)
+    → MatchBool r (AllWithin (λ k. p k ≡ true) (range_with_len 0 n) 0 (length (range_with_len 0 n))) ((k : ℕ) × (k < length (range_with_len 0 n)) × HoldsAt (λ k. p k ≡ false) (range_with_len 0 n) k)
+    → r ≡ all n p
+told n p true e =
+    sym (true_of _ (all_intro n p (λ i h. to_T (subst (λ (k : ℕ). p k ≡ true) (omega (arith, get_or-range_with_len 0 n i 0 h)) (e i 0 zero-le (omega (arith, h, length-range_with_len 0 n)))))))
+told n p false (k, h, e) =
+    let low : k < n = omega (arith, h, length-range_with_len 0 n) in
+    let no : p k ≡ false = subst (λ (j : ℕ). p j ≡ false) (omega (arith, get_or-range_with_len 0 n k 0 low)) (e 0) in
+    sym (all_broken n p k low (rw no tt))
 
 pub returns : goal.returns
 unfolding pumps_fit
-returns c = sym (true_of _ (all_end _ _ _ c.loop-k.invariant.0 c.loop-k-test.false c.loop-k.invariant.1))
+returns c =
+    let fits = λ (k : ℕ). pump_fits c.args.card (pump_at c.args.pumps.now k) in
+    let n = length c.args.pumps.now / 2 in
+    told n fits c.all.result
+    (cases_from_all _ _ _ (λ k. fits k ≡ true) (λ k. fits k ≡ false) c.all.ensures.ran (YieldsList-from_range 0 n n (search rules) (omega arith)) (λ x q k. search rules) (λ x q k. search rules))

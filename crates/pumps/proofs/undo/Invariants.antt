@@ -4,6 +4,3 @@ use Rattle.pumps.proofs.undo.Given as goal
 
 abbrev pub invariant-loop-k : goal.invariant-loop-k
 invariant-loop-k l = Undoing l.initial.state l.pumps l.found l.count l.state l.k
-
-abbrev pub decreases-loop-k : goal.decreases-loop-k
-decreases-loop-k l = l.k

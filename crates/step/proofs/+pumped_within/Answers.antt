@@ -4,13 +4,11 @@ use Rattle.step.proofs.Rooms.{room_few, room_grows}
 use Rattle.step.proofs.+pumped_within.Goals as goal
 
 pub pumped_within-requires : goal.pumped_within-requires
-pumped_within-requires t c =
-    let a = c.args in
-    let few : length a.next.now ≤ 49408 = room_few a.card a.land.now a.state.now a.next.now c.requires.site in
-    (omega (arith, c.more_room.ensures, room_grows a.room c.if-next-room.true few), search rules)
+pumped_within-requires g t c =
+    let few : length c.args.next.now ≤ 49408 = room_few _ _ _ _ c.requires.site in
+    λ κs lives. (omega (arith, c.more_room.ensures, room_grows c.args.room c.if-next-room.true few), search rules)
 
-pub large_pumped-requires : goal.large_pumped-requires
-large_pumped-requires t c =
-    let a = c.args in
-    let few : length a.next.now ≤ 49408 = room_few a.card a.land.now a.state.now a.next.now c.requires.site in
+pub pumped_on-requires-2 : goal.pumped_on-requires-2
+pumped_on-requires-2 g t c =
+    let few : length c.args.next.now ≤ 49408 = room_few _ _ _ _ c.requires.site in
     search (rules, few)

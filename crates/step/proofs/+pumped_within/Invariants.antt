@@ -3,4 +3,4 @@ use Rattle.std.proofs.Common.{◌-◌, length}
 use Rattle.step.proofs.+pumped_within.Given as goal
 
 abbrev pub decreases-pumped_within : goal.decreases-pumped_within
-decreases-pumped_within l = length l.next.now - l.room
+decreases-pumped_within g l = length l.next.now - l.room

@@ -3,4 +3,4 @@ use Rattle.std.proofs.Common.{◌-◌, length}
 use Rattle.step.proofs.+step_within.Given as goal
 
 abbrev pub decreases-step_within : goal.decreases-step_within
-decreases-step_within l = length l.next.now - l.room
+decreases-step_within g l = length l.next.now - l.room
