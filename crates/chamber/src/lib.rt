@@ -12,11 +12,8 @@ fn cell_along(side: u32, count: u32, x: u64) -> usize
     requires { (0 < side) × (0 < count) }
     ensures { result ≡ cell_along side count (pos x) }
 {
-    let cell = x / (side as u64);
-    if cell < count as u64 {
-        return cell as usize;
-    }
-    (count - 1) as usize
+    let cell = x / u64::from(side);
+    cell.min(u64::from(count - 1)) as usize
 }
 
 // Where its cell's height stands in the state.
@@ -29,15 +26,12 @@ fn cell_place(card: Card, x: i64, y: i64) -> usize
     row * (card.columns as usize) + column
 }
 
-// A height and a depth are whole micrometres, not below 0. Nothing is rounded before they are compared.
+// A height and a depth are whole micrometres, not below 0, and compared without their signs (docs/DECISIONS.md, `DeepEnough`). Nothing is rounded before.
 fn deep_enough(height: u32, depth: u32) -> bool
     requires { (height ≤ 50000000) × (depth ≤ 50000000) }
     ensures { DeepEnough height depth result }
 {
-    if depth <= height {
-        return true;
-    }
-    false
+    depth <= height
 }
 
 // Whether it is inside the window, and its cell's kept height at least the depth asked.
@@ -47,6 +41,7 @@ pub fn listed(card: Card, state: &[i32], window: Window, depth: i32, x: i64, y: 
 {
     if window::inside(window, x, y) {
         let at = cell_place(card, x, y);
+        // The casts are proved to lose nothing, which cast_unsigned would not ask.
         return deep_enough(state[at] as u32, depth as u32);
     }
     false

@@ -2,27 +2,20 @@
 #![tactic(auto)]
 
 ghost use Rattle.std.specs.Prelude.{◌≡◌, ◌≤◌, ◌<◌, length};
-ghost use Rattle.records.specs.Row.{start, put_at, gathered, to_read, Readable};
+ghost use Rattle.records.specs.Row.{put_at, gathered, to_read, Readable};
 ghost use Rattle.records.specs.Gathered.{PartsContract, GatheredAnswer};
 
-use rules::{Card, Chamber, Found, Window};
+use rules::{Card, Chamber, Found, Window, outcome_number};
 use search::search_lists;
-
-fn empty() -> [i64; 2000]
-    ensures { result ≡ start }
-{
-    [0; 2000]
-}
 
 // How many of a register's n chambers are to be read: all, or none where the card or a length is refused. So a refusal of these reads no chamber.
 pub fn to_read(card: Card, land: &[i32], state: &[i32], n: usize) -> usize
     ensures { result ≡ to_read card land.now state.now n }
 {
-    let front = site::front(card, land, state, true, n <= 1000);
-    if front == 0 {
-        return n;
+    match site::front(card, land, state, true, n <= 1000) {
+        Ok(()) => n,
+        Err(_) => 0,
     }
-    0
 }
 
 // Lays one chamber at place i: its x there, its y 1,000 places on.
@@ -41,11 +34,9 @@ pub fn gather(row: &[Chamber], n: usize) -> [i64; 2000]
     requires { Readable row.now n }
     ensures { result ≡ gathered row.now n }
 {
-    let mut both = empty();
-    let mut i: usize = 0;
-    while i < n {
-        put(&mut both, i, row[i]);
-        i += 1;
+    let mut both = [0i64; 2000];
+    for (i, chamber) in row[..n].iter().enumerate() {
+        put(&mut both, i, *chamber);
     }
     both
 }
@@ -64,14 +55,12 @@ fn search_parts(
     requires { (n ≤ 1000) × (length both.now ≡ 2000) }
     ensures { PartsContract card land.now state.now both.now n window depth found.old result found.new }
 {
-    let start: usize = 1000;
-    let end = start + n;
     search_lists(
         card,
         land,
         state,
         &both[..n],
-        &both[start..end],
+        &both[1000..][..n],
         window,
         depth,
         found,
@@ -93,8 +82,11 @@ pub fn search_gathered(
     ensures { GatheredAnswer card land.now state.now both n window depth found.old result found.new }
 {
     if 1000 < n {
-        let number = site::front(card, land, state, true, false);
-        return Found { number, count: 0 };
+        let front = site::front(card, land, state, true, false);
+        return Found {
+            number: outcome_number(front),
+            count: 0,
+        };
     }
     search_parts(card, land, state, &both, n, window, depth, found)
 }

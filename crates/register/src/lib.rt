@@ -1,7 +1,7 @@
 // The register, as two lists of numbers: what is asked of it, and the list of its places.
 #![tactic(auto)]
 
-ghost use Rattle.std.specs.Prelude.{◌≡◌, true, ◌*◌, ◌≤◌, ◌<◌, pos, length, get_or, take, drop, ◌++◌};
+ghost use Rattle.std.specs.Prelude.{◌≡◌, true, ◌*◌, ◌≤◌, ◌<◌, pos, length, get_or};
 ghost use Rattle.rules.specs.Grid.{all};
 ghost use Rattle.rules.specs.Site.{card_fits};
 ghost use Rattle.rules.specs.Search.{asked_fits, listed_at, list_of};
@@ -18,24 +18,21 @@ fn reach(count: u32, side: u32) -> i64
     requires { (count ≤ 128) × (side ≤ 20000000) }
     ensures { result ≡ pos (count * side) }
 {
-    let far = (count as u64) * (side as u64);
+    let far = u64::from(count) * u64::from(side);
     far as i64
 }
 
+// The definition's word, with std's method inside; one for each type.
 fn is_along(far: i64, x: i64) -> bool
     ensures { result ≡ between (pos 0) far x }
 {
-    (0 <= x) & (x <= far)
+    (0..=far).contains(&x)
 }
 
 fn all_along(far: i64, xs: &[i64]) -> bool
     ensures { result ≡ all (length xs.now) (λ k. between (pos 0) far (get_or xs.now k (pos 0))) }
 {
-    let mut ok = true;
-    for k in 0..xs.len() {
-        ok = ok & is_along(far, xs[k]);
-    }
-    ok
+    xs.iter().copied().fold(true, |ok, x| ok & is_along(far, x))
 }
 
 // Whether every chamber lies on the site, the depth is in its range and the window's edges are finite.
@@ -63,7 +60,8 @@ fn listed_at(
     listed(card, state, window, depth, xs[k], ys[k])
 }
 
-// Lays the places that are listed at the front of a draft, and says how many: the chambers are looked at once, before the room is known.
+// Lays the places that are listed at the front of a draft, and says how many: the chambers are looked at once, before the room is known. Window, depth and the two
+// lists stay parameters, as water_search_lists lends them: a struct of them would be built there and taken apart in each clause here.
 pub fn list(
     card: Card,
     state: &[i32],
@@ -77,23 +75,12 @@ pub fn list(
     ensures { Listed (list_of card state.now window depth xs.now ys.now) draft.old result draft.new }
 {
     let mut n: usize = 0;
-    let mut k: usize = 0;
-    while k < xs.len() {
+    // By its place, which is what is answered.
+    for k in 0..xs.len() {
         if listed_at(card, state, window, depth, xs, ys, k) {
             draft[n] = k as u32;
             n += 1;
         }
-        k += 1;
     }
     n
-}
-
-// Copies the first n places of the draft.
-pub fn copy_front(draft: &[u32], n: usize, found: &mut [u32])
-    requires { (n ≤ length draft.now) × (n ≤ length found.old) }
-    ensures { found.new ≡ take n draft.now ++ drop n found.old }
-{
-    for k in 0..n {
-        found[k] = draft[k];
-    }
 }

@@ -1,15 +1,12 @@
 -- What the search answers: the checks' number where it is not 0, and elsewhere what is reported.
-use mathlib.Core.Path.{◌≡◌, refl, sym, ◌∙◌, ap, ap₂, subst}
+use mathlib.Core.Path.{◌≡◌, refl, sym, ◌∙◌, ap, ap₂}
 use mathlib.Core.Bool.{Bool, true, false, cond}
 use mathlib.Core.List.{List, ◌++◌}
-use Prim.Native.Nat.{ℕ, ◌≤◌, ◌<◌}
-use native.Mathlib.Nat.{lt_irrefl}
+use Prim.Native.Nat.{ℕ}
 use native.Mathlib.Omega.{arith}
 use lib.Dec.{leb}
 use lib.IntN.{ℤ}
-use lib.ListN.{length, take, drop}
-use lib.Seq.{take_at}
-use borrow.Author.Tests.{le-leb, lt-leb, leb-false}
+use lib.ListN.{length, drop}
 use Rattle.rules.specs.declared.Card.{Card}
 use Rattle.rules.specs.declared.Window.{Window}
 use Rattle.rules.specs.declared.Found.{Found}
@@ -29,42 +26,6 @@ room : (enough : Bool) (done refused : List ℕ) → if_done (cond enough 0 8) d
 unfolding if_done
 room true done refused = refl
 room false done refused = refl
-
--- ---- What is handed over: the whole list or, where the list that was lent is shorter, nothing
-
-module _ (listed lent : List ℕ) where
-  abbrev pub enough : Bool
-  enough = leb (length listed) (length lent)
-
-  module _ (n : ℕ) where
-    pub nothing : length lent < length listed → n ≡ 0 → n ≡ cond enough (length listed) 0
-    nothing h e = rw (lt-leb _ _ h) e
-
-    pub all_of_it : length listed ≤ length lent → n ≡ length listed → n ≡ cond enough (length listed) 0
-    all_of_it h e = rw (le-leb _ _ h) e
-
-    module _ (e : n ≡ cond enough (length listed) 0) where
-      -- less than all of it is 8
-      pub number_8 : n < length listed → 8 ≡ cond {A = ℕ} enough 0 8
-      number_8 h = go enough e
-        where
-          go : (b : Bool) → n ≡ cond b (length listed) 0 → 8 ≡ cond {A = ℕ} b 0 8
-          go true e = absurd (lt_irrefl n (subst (λ (k : ℕ). n < k) (sym e) h))
-          go false e = refl
-
-      pub number_0 : length listed ≤ n → 0 ≡ cond {A = ℕ} enough 0 8
-      number_0 h = go enough refl e
-        where
-          go : (b : Bool) → enough ≡ b → n ≡ cond b (length listed) 0 → 0 ≡ cond {A = ℕ} b 0 8
-          go true t e = refl
-          go false t e = absurd (lt_irrefl 0 (omega (arith, h, e, leb-false (length listed) (length lent) t)))
-
-      pub left_is : (draft rest : List ℕ) → draft ≡ listed ++ rest → take n draft ++ drop n lent ≡ cond enough (listed ++ drop (length listed) lent) lent
-      left_is draft rest d = go enough e
-        where
-          go : (b : Bool) → n ≡ cond b (length listed) 0 → take n draft ++ drop n lent ≡ cond b (listed ++ drop (length listed) lent) lent
-          go true e = rw (e, d) (ap (λ (l : List ℕ). l ++ drop (length listed) lent) (take_at listed rest (length listed) refl))
-          go false e = rw e
 
 module _ (c : Card) (g s xs ys : List ℤ) (w : Window) (depth : ℤ) where
   -- what is known where the checks give 0

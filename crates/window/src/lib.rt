@@ -4,26 +4,18 @@
 ghost use Rattle.std.specs.Prelude.{◌≡◌, T};
 ghost use Rattle.std.specs.Float.{binary64};
 ghost use Rattle.std.specs.Float.Ieee.{in_float};
-ghost use Rattle.rules.specs.Search.{is_finite, edges_finite, inside as search_inside};
+ghost use Rattle.rules.specs.Search.{edges_finite, inside as search_inside};
 
 use rules::Window;
 
-// Whether x is neither a NaN nor an infinity. There is no literal of an infinity: the two are made of their bits.
-fn is_finite(x: f64) -> bool
-    ensures { result ≡ is_finite x }
-{
-    let low = f64::from_bits(0xfff0_0000_0000_0000);
-    let high = f64::from_bits(0x7ff0_0000_0000_0000);
-    (low < x) & (x < high)
-}
-
+// Whether no edge is a NaN or an infinity.
 pub fn edges_finite(window: Window) -> bool
     ensures { result ≡ edges_finite window }
 {
-    is_finite(window.west)
-        & is_finite(window.south)
-        & is_finite(window.east)
-        & is_finite(window.north)
+    window.west.is_finite()
+        & window.south.is_finite()
+        & window.east.is_finite()
+        & window.north.is_finite()
 }
 
 // Whether west ≤ x ≤ east and south ≤ y ≤ north, x and y turned into floats. The two are joined by a branch: four float tests joined without one

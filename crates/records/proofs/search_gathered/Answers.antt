@@ -1,5 +1,5 @@
 -- `search_gathered`: over 1,000 chambers are refused here, and the others are searched.
-use mathlib.Core.Path.{refl, subst}
+use mathlib.Core.Path.{◌∙◌, refl, subst}
 use native.Mathlib.Nat.{not-le_of_lt}
 use lib.IntN.{ℤ}
 use mir.Facts.{to_z-of_z}
@@ -7,7 +7,7 @@ use Rattle.records.specs.Gathered.{PartsContract}
 use Rattle.records.proofs.search_gathered.Goals as goal
 
 pub returns-then-n-gt1000 : goal.returns-then-n-gt1000
-returns-then-n-gt1000 c = record { many = λ h. (rw c.front-number.ensures, refl); few = λ h. absurd (not-le_of_lt c.if-n-gt1000.true h) }
+returns-then-n-gt1000 c = record { many = λ h. (rw (c.outcome_number.ensures ∙ c.front-front.ensures), refl); few = λ h. absurd (not-le_of_lt c.if-n-gt1000.true h) }
 
 pub returns : goal.returns
 returns c =

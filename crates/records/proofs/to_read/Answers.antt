@@ -1,13 +1,14 @@
 -- `to_read`: all where the card and the lengths pass, and none where one is refused.
 use mathlib.Core.Path.{sym, ◌∙◌}
 use Rattle.laws.specs.Outcomes.{if_done_lem, if_refused}
+use Rattle.laws.specs.Refusing.{number-ne0}
 use Rattle.records.specs.Row.{to_read}
 use Rattle.records.proofs.to_read.Goals as goal
 
-pub returns-then-front-eq0 : goal.returns-then-front-eq0
+pub returns-in-Ok : goal.returns-in-Ok
 unfolding to_read
-returns-then-front-eq0 c = sym (if_done_lem _ _ _ (sym c.front-front.ensures ∙ c.if-front-eq0.true))
+returns-in-Ok c = sym (if_done_lem _ _ _ (sym c.in-Ok.ensures))
 
-pub returns : goal.returns
+pub returns-in-Err : goal.returns-in-Err
 unfolding to_read
-returns c = sym (if_refused _ _ _ (λ z. c.if-front-eq0.false (c.front-front.ensures ∙ z)))
+returns-in-Err c = sym (if_refused _ _ _ (λ z. number-ne0 c.in-Err.field-0 (c.in-Err.ensures ∙ z)))

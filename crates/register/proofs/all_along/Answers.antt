@@ -1,18 +1,36 @@
-use mathlib.Core.Path.{◌∙◌}
-use lib.IntN.{pos}
-use lib.ListN.{get_or}
-use mir.Syntax.{w64}
-use mir.Facts.{to_z-of_z}
-use Rattle.laws.specs.Gather.{gather_none, gather_more, gather_all}
+-- `all_along`: the fold over the numbers is the test at every place.
+use Rattle.std.proofs.Common.{rules, add-one}
+use Rattle.std.specs.List.{fold}
+use Rattle.std.proofs.lemmas.List.Sums.{fold_more}
+use mathlib.Core.Path.{◌≡◌, refl, sym, ◌∙◌, ap}
+use mathlib.Core.Bool.{Bool, true, ◌&&◌}
+use mathlib.Core.List.{List}
+use Prim.Native.Nat.{ℕ, zero, suc, ◌≤◌}
+use native.Mathlib.Omega.{arith}
+use lib.IntN.{ℤ, pos}
+use lib.ListN.{length, get_or, take}
+use lib.Seq.{take-length}
+use Rattle.rules.specs.Grid.{all}
+use Rattle.laws.specs.Between.{between}
 use Rattle.register.proofs.all_along.Goals as goal
 
-pub loop-k-init : goal.loop-k-init
-loop-k-init c = gather_none
+module _ (p : ℤ → Bool) (xs : List ℤ) where
+  abbrev both : Bool → ℤ → Bool
+  both b x = b && p x
 
-pub loop-k-preserved : goal.loop-k-preserved
-loop-k-preserved c =
-    let number = to_z-of_z {w = w64} {z = get_or c.args.xs.now c.loop-k.k (pos 0)} (record { sfits = c.is_along-arg-1.given }) in
-    gather_more c.loop-k.invariant c.loop-k-test.true (c.is_along-ok.ensures ∙ simp number)
+  so_far : (k : ℕ) → k ≤ length xs → fold both true (take k xs) ≡ all k (λ i. p (get_or xs i (pos 0)))
+  unfolding all
+  so_far zero h = refl
+  so_far (suc k) h =
+      ap (λ (n : ℕ). fold both true (take n xs)) (sym (add-one k))
+      ∙ fold_more both true xs k (pos 0) h
+      ∙ ap (λ (b : Bool). b && p (get_or xs k (pos 0))) (so_far k (omega (arith, h)))
+
+  gathered : fold both true xs ≡ all (length xs) (λ i. p (get_or xs i (pos 0)))
+  gathered = ap (fold both true) (sym (take-length xs)) ∙ so_far (length xs) (omega arith)
 
 pub returns : goal.returns
-returns c = simp (to_z-of_z c.ranges.far) at (gather_all c.loop-k.invariant c.loop-k-test.false)
+returns c =
+    let far = c.args.far in
+    let folded : c.fold.result ≡ fold (λ b x. b && between (pos 0) far x) true c.args.xs.now = search rules in
+    folded ∙ gathered (between (pos 0) far) c.args.xs.now

@@ -1,5 +1,4 @@
 -- `list`: one turn lays one place more, where it is listed. There are at most 1,000 of them, and the draft has room for as many.
-use Prim.Native.Nat.{◌-◌}
 use lib.ListN.{length}
 use Rattle.rules.specs.Search.{listed_at}
 use Rattle.laws.specs.Listings.{Listing}
@@ -7,6 +6,3 @@ use Rattle.register.proofs.list.Given as goal
 
 abbrev pub invariant-loop-k : goal.invariant-loop-k
 invariant-loop-k l = Listing (length l.xs) (listed_at l.card l.state l.window l.depth l.xs l.ys) l.initial.draft l.k l.n l.draft
-
-abbrev pub decreases-loop-k : goal.decreases-loop-k
-decreases-loop-k l = length l.xs - l.k

@@ -17,4 +17,4 @@ pub returns-then-value : goal.returns-then-value
 returns-then-value c = c.nearest.ensures ∙ tested _ _ (search rules) (search at_least_0s)
 
 pub returns : goal.returns
-returns c = c.without_height.ensures ∙ below_0 _ _ c.if-value.false
+returns c = below_0 _ _ c.if-value.false

@@ -1,10 +1,14 @@
 -- `staff_height`: each kind of reading by the factor of its unit.
+use Rattle.std.specs.Prelude.{Ok, Err, None}
+use Rattle.rules.specs.Answers.{staff_of}
+use mir.Syntax.{w32}
+use mir.Facts.{to_z-of_z}
 use mathlib.Core.Path.{◌≡◌, refl, sym, ap, ◌∙◌}
 use borrow.Author.Rules.{rules}
 use lib.Count.{count_trailing_zeros}
 use lib.Ieee.{Float, binary64, size, span, climb, odd, units, round, mul, of_int, of_fields, of_bits}
 use Rattle.rules.specs.declared.Reading.TheVariants.{Metres, Feet, Nothing}
-use Rattle.rules.specs.Staff.{product, measured, without_height}
+use Rattle.rules.specs.Staff.{with_height, product, measured, without_height}
 use Rattle.rules.specs.Calls.{staff_answer}
 use Rattle.staff.proofs.staff_height.Goals as goal
 
@@ -17,8 +21,8 @@ in_feet : (v : Float) → measured v (mul binary64 v (of_bits binary64 0x4112_9a
 unfolding staff_answer product of_int round units odd size span climb count_trailing_zeros of_bits of_fields
 in_feet v = refl
 
-nothing : without_height 0 ≡ staff_answer Nothing
-unfolding staff_answer
+nothing : staff_of (Ok None) ≡ staff_answer Nothing
+unfolding staff_answer without_height
 nothing = refl
 
 pub measured-requires : goal.measured-requires
@@ -29,11 +33,25 @@ pub measured-requires-in-Feet : goal.measured-requires-in-Feet
 unfolding of_bits
 measured-requires-in-Feet c = tt
 
-pub returns-in-Metres : goal.returns-in-Metres
-returns-in-Metres c = record { answer = c.measured.ensures ∙ in_metres _ ∙ ap staff_answer (sym (search rules)) }
+pub returns-in_err-measured-in-Metres : goal.returns-in_err-measured-in-Metres
+unfolding without_height
+returns-in_err-measured-in-Metres c =
+    let same : c.from_residual.result ≡ Err c.in_err-measured-in-Metres.field-0.0 = search rules in
+    record { answer = ap staff_of same ∙ c.in_err-measured-in-Metres.ensures ∙ in_metres _ ∙ ap staff_answer (sym (search rules)) }
 
-pub returns-in-Feet : goal.returns-in-Feet
-returns-in-Feet c = record { answer = c.measured-in-Feet.ensures ∙ in_feet _ ∙ ap staff_answer (sym (search rules)) }
+pub returns-in_ok-measured-in-Metres : goal.returns-in_ok-measured-in-Metres
+unfolding with_height
+returns-in_ok-measured-in-Metres c = record { answer = ap with_height (to_z-of_z {w = w32} (search rules)) ∙ c.in_ok-measured-in-Metres.ensures ∙ in_metres _ ∙ ap staff_answer (sym (search rules)) }
+
+pub returns-in_err-measured-in-Feet : goal.returns-in_err-measured-in-Feet
+unfolding without_height
+returns-in_err-measured-in-Feet c =
+    let same : c.from_residual-in_err-measured-in-Feet.result ≡ Err c.in_err-measured-in-Feet.field-0.0 = search rules in
+    record { answer = ap staff_of same ∙ c.in_err-measured-in-Feet.ensures ∙ in_feet _ ∙ ap staff_answer (sym (search rules)) }
+
+pub returns-in_ok-measured-in-Feet : goal.returns-in_ok-measured-in-Feet
+unfolding with_height
+returns-in_ok-measured-in-Feet c = record { answer = ap with_height (to_z-of_z {w = w32} (search rules)) ∙ c.in_ok-measured-in-Feet.ensures ∙ in_feet _ ∙ ap staff_answer (sym (search rules)) }
 
 pub returns-in-Nothing : goal.returns-in-Nothing
-returns-in-Nothing c = record { answer = c.without_height.ensures ∙ nothing ∙ ap staff_answer (sym (search rules)) }
+returns-in-Nothing c = record { answer = nothing ∙ ap staff_answer (sym (search rules)) }

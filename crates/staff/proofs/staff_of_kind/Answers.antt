@@ -1,33 +1,36 @@
--- `staff_of_kind`: each kind as the reading that it is, and no other.
-use mathlib.Core.Path.{◌≡◌, refl, sym, ap, ◌∙◌}
+-- `staff_of_kind`: a kind that is none is refused, and any other is answered as its reading.
+use mathlib.Core.Path.{◌≡◌, refl, ap, ◌∙◌}
 use Prim.Native.Nat.{ℕ, zero, suc}
 use borrow.Author.Rules.{rules}
 use lib.Ieee.{Float}
+use Rattle.std.specs.Prelude.{Result, Ok, Err}
+use Rattle.rules.specs.declared.Reading.{Reading}
+use Rattle.rules.specs.declared.Staff.{Staff}
+use Rattle.rules.specs.declared.refusals.Refusal.{Refusal}
 use Rattle.rules.specs.Staff.{without_height}
-use Rattle.rules.specs.Calls.{kind_answer}
+use Rattle.rules.specs.Answers.{staff_of}
+use Rattle.rules.specs.Refusals.{refusal_number}
+use Rattle.rules.specs.Calls.{staff_answer, kind_answer}
+use Rattle.staff.specs.Heights.{reading_of}
 use Rattle.staff.proofs.staff_of_kind.Goals as goal
 
-same_kind : (n k : ℕ) (v : Float) → k ≡ n → kind_answer n v ≡ kind_answer k v
-same_kind n k v e = ap (λ j. kind_answer j v) (sym e)
+answered : Result Reading Refusal → Staff
+answered (Ok reading) = staff_answer reading
+answered (Err refusal) = without_height (refusal_number refusal)
 
-no_kind : (k : ℕ) (v : Float) → (k ≡ 0 → ⊥) → (k ≡ 1 → ⊥) → (k ≡ 2 → ⊥) → without_height 3 ≡ kind_answer k v
-unfolding kind_answer
-no_kind zero v a b c = absurd (a refl)
-no_kind (suc zero) v a b c = absurd (b refl)
-no_kind (suc (suc zero)) v a b c = absurd (c refl)
-no_kind (suc (suc (suc k))) v a b c = refl
+of_kind : (k : ℕ) (v : Float) → answered (reading_of k v) ≡ kind_answer k v
+unfolding answered reading_of kind_answer
+of_kind zero v = refl
+of_kind (suc zero) v = refl
+of_kind (suc (suc zero)) v = refl
+of_kind (suc (suc (suc k))) v = refl
 
-pub returns-in-0 : goal.returns-in-0
-unfolding kind_answer
-returns-in-0 c = record { answer = c.staff_height.ensures.answer ∙ same_kind 0 c.args.kind _ (search rules) }
+pub returns-in_err-reading_of : goal.returns-in_err-reading_of
+unfolding answered without_height
+returns-in_err-reading_of c =
+    let same : c.from_residual.result ≡ Err c.in_err-reading_of.field-0.0 = search rules in
+    record { answer = ap staff_of same ∙ ap answered c.in_err-reading_of.ensures ∙ of_kind _ _ }
 
-pub returns-in-1 : goal.returns-in-1
-unfolding kind_answer
-returns-in-1 c = record { answer = c.staff_height-in-1.ensures.answer ∙ same_kind 1 c.args.kind _ (search rules) }
-
-pub returns-in-2 : goal.returns-in-2
-unfolding kind_answer
-returns-in-2 c = record { answer = c.staff_height-in-2.ensures.answer ∙ same_kind 2 c.args.kind _ (search rules) }
-
-pub returns-in_default : goal.returns-in_default
-returns-in_default c = record { answer = c.without_height.ensures ∙ no_kind _ _ (search rules) (search rules) (search rules) }
+pub returns : goal.returns
+unfolding answered
+returns c = record { answer = c.staff_height.ensures.answer ∙ ap answered c.in_ok-reading_of.ensures ∙ of_kind _ _ }
