@@ -1,75 +1,60 @@
-// The numbers of the calls on a pin table, in document 02's order.
+// What the calls on a pin table are refused for, in document 02's order.
 #![tactic(auto)]
 
 ghost use Rattle.std.specs.Prelude.{◌≡◌, true, length};
-ghost use Rattle.rules.specs.Site.{first_refusal};
-ghost use Rattle.pins_rules.specs.Calls.{unless as calls_unless, crew_number, chamber_number, add_number, remove_number};
+ghost use Rattle.pins_rules.specs.Refusals.{outcome_number};
+ghost use Rattle.pins_rules.specs.Calls.{crew_number, chamber_number, add_number, remove_number};
 
-// A refusal's number, unless its test passes.
-fn unless(passes: bool, number: u32) -> u32
-    ensures { result ≡ calls_unless passes number }
-{
-    if passes {
-        return 0;
-    }
-    number
-}
-
-// The first of two numbers that refuses.
-fn first_refusal(number: u32, later: u32) -> u32
-    ensures { result ≡ first_refusal number later }
-{
-    if number != 0 {
-        return number;
-    }
-    later
-}
+use pins_rules::PinRefusal;
 
 // What every call asks. No word is read where a length is wrong.
-pub fn crew_number(lengths: bool, table: &[u32], crew: u32) -> u32
+pub fn crew_number(lengths: bool, table: &[u32], crew: u32) -> Result<(), PinRefusal>
     requires { lengths ≡ true → length table.now ≡ 64 }
-    ensures { result ≡ crew_number lengths table.now crew }
+    ensures { outcome_number result ≡ crew_number lengths table.now crew }
 {
     if !lengths {
-        return 2;
+        return Err(PinRefusal::Length);
     }
     if !pin_table::table_fits(table) {
-        return 3;
+        return Err(PinRefusal::Table);
     }
     if !pin_table::is_crew(crew) {
-        return 11;
+        return Err(PinRefusal::Crew);
     }
-    0
+    Ok(())
 }
 
-fn chamber_number(table: &[u32], crew: u32, chamber: u32) -> u32
-    ensures { result ≡ chamber_number table.now crew chamber }
+fn chamber_number(table: &[u32], crew: u32, chamber: u32) -> Result<(), PinRefusal>
+    ensures { outcome_number result ≡ chamber_number table.now crew chamber }
 {
-    let number = crew_number(table.len() == 64, table, crew);
-    if number != 0 {
-        return number;
+    crew_number(table.len() == 64, table, crew)?;
+    if !pin_table::is_chamber(chamber) {
+        return Err(PinRefusal::Chamber);
     }
-    unless(pin_table::is_chamber(chamber), 12)
+    Ok(())
 }
 
-pub fn add_number(table: &[u32], crew: u32, chamber: u32) -> u32
-    ensures { result ≡ add_number table.now crew chamber }
+pub fn add_number(table: &[u32], crew: u32, chamber: u32) -> Result<(), PinRefusal>
+    ensures { outcome_number result ≡ add_number table.now crew chamber }
 {
-    let number = chamber_number(table, crew, chamber);
-    if number != 0 {
-        return number;
+    chamber_number(table, crew, chamber)?;
+    let full = 32 <= pin_table::held(table, crew);
+    let pinned = pin_table::stands(table, pin_table::pin(crew, chamber));
+    if pinned {
+        return Err(PinRefusal::Pinned);
     }
-    let pinned = unless(!pin_table::stands(table, pin_table::pin(crew, chamber)), 13);
-    let full = unless(pin_table::held(table, crew) < 32, 14);
-    first_refusal(pinned, full)
+    if full {
+        return Err(PinRefusal::Full);
+    }
+    Ok(())
 }
 
-pub fn remove_number(table: &[u32], crew: u32, chamber: u32) -> u32
-    ensures { result ≡ remove_number table.now crew chamber }
+pub fn remove_number(table: &[u32], crew: u32, chamber: u32) -> Result<(), PinRefusal>
+    ensures { outcome_number result ≡ remove_number table.now crew chamber }
 {
-    let number = chamber_number(table, crew, chamber);
-    if number != 0 {
-        return number;
+    chamber_number(table, crew, chamber)?;
+    if !pin_table::stands(table, pin_table::pin(crew, chamber)) {
+        return Err(PinRefusal::Pinned);
     }
-    unless(pin_table::stands(table, pin_table::pin(crew, chamber)), 13)
+    Ok(())
 }

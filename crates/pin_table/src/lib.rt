@@ -1,14 +1,13 @@
 // The pin table: what its words are, whether it passes, and how one place changes.
 #![tactic(auto)]
 
-ghost use Rattle.std.specs.Prelude.{◌≡◌, ◌≤◌, ◌<◌, length, replicate};
+ghost use Rattle.std.specs.Prelude.{◌≡◌, ◌==◌, position, ◌≤◌, ◌<◌, length};
 ghost use Rattle.pins_rules.specs.Table.{pin as table_pin, crew_of, chamber_of, is_crew, is_chamber, word_fits, stands as table_stands, words_fit, each_once, held as table_held, table_fits, first_changed};
-ghost use Rattle.pins_laws.specs.FirstPlace.{FirstPlace};
 ghost use Rattle.pins_laws.specs.Marks.{Markable, MarkedBy, Unmarked};
 
 // ---- Words
 
-// A crew's pin on a chamber, as a word.
+// A crew's pin on a chamber, as a word. A crew is a number and no enum: `held` and `is_crew` promise their answer for every number, and a refused table or call may have any.
 pub fn pin(crew: u32, chamber: u32) -> u32
     requires { (crew ≤ 2) × (chamber < 1000) }
     ensures { result ≡ table_pin crew chamber }
@@ -31,7 +30,7 @@ pub fn chamber_of(word: u32) -> u32
 pub fn is_crew(crew: u32) -> bool
     ensures { result ≡ is_crew crew }
 {
-    (1 <= crew) & (crew <= 2)
+    (1..=2).contains(&crew)
 }
 
 pub fn is_chamber(chamber: u32) -> bool
@@ -55,21 +54,19 @@ fn word_fits(word: u32) -> bool
 pub fn stands(words: &[u32], word: u32) -> bool
     ensures { result ≡ table_stands word words.now }
 {
-    let mut found = false;
-    for k in 0..words.len() {
-        found = found | (words[k] == word);
-    }
-    found
+    words
+        .iter()
+        .copied()
+        .fold(false, |found, w| found | (w == word))
 }
 
 fn words_fit(table: &[u32]) -> bool
     ensures { result ≡ words_fit table.now }
 {
-    let mut fit = true;
-    for k in 0..table.len() {
-        fit = fit & word_fits(table[k]);
-    }
-    fit
+    table
+        .iter()
+        .copied()
+        .fold(true, |fit, word| fit & word_fits(word))
 }
 
 // How many pins a crew has.
@@ -77,21 +74,8 @@ pub fn held(table: &[u32], crew: u32) -> u32
     requires { length table.now ≤ 64 }
     ensures { result ≡ table_held crew table.now }
 {
-    let mut n: u32 = 0;
-    for k in 0..table.len() {
-        let whose = crew_of(table[k]);
-        if whose == crew {
-            n += 1;
-        }
-    }
-    n
-}
-
-// One byte for each chamber, none of them marked.
-fn no_marks() -> [u8; 1000]
-    ensures { result ≡ replicate 1000 0 }
-{
-    [0; 1000]
+    let pins = table.iter().filter(|word| crew_of(**word) == crew).count();
+    pins as u32
 }
 
 // Marks a pin's chamber by its crew, and says whether it was not marked so. A free word marks nothing.
@@ -114,10 +98,8 @@ fn each_once(table: &[u32], marks: &mut [u8]) -> bool
     requires { Unmarked table.now marks.old }
     ensures { result ≡ each_once table.now }
 {
-    let mut k = table.len();
-    while 0 < k {
-        k -= 1;
-        if !mark(marks, table[k]) {
+    for word in table.iter().rev() {
+        if !mark(marks, *word) {
             return false;
         }
     }
@@ -132,7 +114,8 @@ pub fn table_fits(table: &[u32]) -> bool
     if !words_fit(table) {
         return false;
     }
-    let mut marks = no_marks();
+    // One byte for each chamber, none of them marked.
+    let mut marks = [0u8; 1000];
     let once = each_once(table, &mut marks);
     let one = held(table, 1) <= 32;
     let two = held(table, 2) <= 32;
@@ -141,28 +124,18 @@ pub fn table_fits(table: &[u32]) -> bool
 
 // ---- One place changes
 
-// The lowest place that has a word, or the number of places where none has.
-fn first_place(table: &[u32], word: u32) -> usize
-    ensures { FirstPlace word table.now (length table.now) result }
+// The lowest place that has a word.
+fn first_place(table: &[u32], word: u32) -> Option<usize>
+    ensures { result ≡ position (λ w. w == word) table.now }
 {
-    let none = table.len();
-    let mut at = none;
-    for k in 0..none {
-        let here = table[k] == word;
-        // A later place counts only where there was none before.
-        if here & (none <= at) {
-            at = k;
-        }
-    }
-    at
+    table.iter().position(|w| *w == word)
 }
 
 // The lowest place that has one word gets another.
 pub fn change(table: &mut [u32], from: u32, to: u32)
     ensures { table.new ≡ first_changed from to table.old }
 {
-    let at = first_place(table, from);
-    if at < table.len() {
+    if let Some(at) = first_place(table, from) {
         table[at] = to;
     }
 }

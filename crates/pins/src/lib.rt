@@ -11,9 +11,8 @@ use pins_rules::Listing;
 pub extern "C" fn pins_add(table: &mut [u32], crew: u32, chamber: u32) -> u32
     ensures { AddContract table.old crew chamber result table.new }
 {
-    let number = pin_numbers::add_number(table, crew, chamber);
-    if number != 0 {
-        return number;
+    if let Err(refusal) = pin_numbers::add_number(table, crew, chamber) {
+        return u32::from(refusal);
     }
     pin_table::change(table, 0, pin_table::pin(crew, chamber));
     0
@@ -24,9 +23,8 @@ pub extern "C" fn pins_add(table: &mut [u32], crew: u32, chamber: u32) -> u32
 pub extern "C" fn pins_remove(table: &mut [u32], crew: u32, chamber: u32) -> u32
     ensures { RemoveContract table.old crew chamber result table.new }
 {
-    let number = pin_numbers::remove_number(table, crew, chamber);
-    if number != 0 {
-        return number;
+    if let Err(refusal) = pin_numbers::remove_number(table, crew, chamber) {
+        return u32::from(refusal);
     }
     pin_table::change(table, pin_table::pin(crew, chamber), 0);
     0
@@ -38,8 +36,8 @@ pub extern "C" fn pins_list(table: &[u32], crew: u32, found: &mut [u32]) -> List
     ensures { ListContract table.now crew found.old result found.new }
 {
     let lengths = (table.len() == 64) & (found.len() == 32);
-    let number = pin_numbers::crew_number(lengths, table, crew);
-    if number != 0 {
+    if let Err(refusal) = pin_numbers::crew_number(lengths, table, crew) {
+        let number = u32::from(refusal);
         return Listing { number, count: 0 };
     }
     let count = pin_listing::list(table, crew, found) as u32;

@@ -11,3 +11,4 @@ pub mod Marks
 pub mod Marking
 pub mod Room
 pub mod Laying
+pub mod Refusing

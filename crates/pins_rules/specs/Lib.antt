@@ -2,3 +2,4 @@ pub mod Table
 pub mod Calls
 pub mod PublicContracts
 pub mod Starred
+pub mod Refusals

@@ -1,32 +1,52 @@
--- `add_number`: the chamber's number, and then 13 and 14.
+-- `add_number`: the chamber's refusal, and then 13 and 14.
 use native.Mathlib.Omega.{arith}
-use mathlib.Core.Path.{sym, ap, ap₂, ◌∙◌}
-use mathlib.Core.Bool.{Bool, not}
+use Rattle.std.proofs.Common.{rules}
+use mathlib.Core.Path.{◌≡◌, refl, sym, ap, ◌∙◌}
+use mathlib.Core.Bool.{true, false}
+use Rattle.std.proofs.lemmas.Bool.{le-ltb, lt-ltb}
 use Prim.Native.Nat.{ℕ}
 use lib.Dec.{ltb}
 use Rattle.rules.specs.Site.{first_refusal}
 use Rattle.laws.specs.Outcomes.{first_refused, first_passed}
 use Rattle.pins_laws.specs.Granted.{chamber_granted}
-use Rattle.pins_rules.specs.Table.{pinned, stands as table_stands}
-use Rattle.pins_rules.specs.Calls.{unless as calls_unless, add_number}
+use Rattle.pins_laws.specs.Refusing.{number-ne0}
+use Rattle.pins_rules.specs.Refusals.{refusal_number, outcome_number}
+use Rattle.pins_rules.specs.Table.{held, pin, pinned, stands as table_stands}
+use Rattle.pins_rules.specs.Calls.{add_number}
 use Rattle.pin_numbers.proofs.add_number.Goals as goal
 
-pub returns-then-number-ne0 : goal.returns-then-number-ne0
+pub returns-in_err-chamber_number : goal.returns-in_err-chamber_number
 unfolding add_number
-returns-then-number-ne0 c = let said = c.chamber_number-number.ensures in said ∙ sym (first_refused _ _ (λ z. c.if-number-ne0.true (said ∙ z)))
+returns-in_err-chamber_number c =
+    let same : outcome_number c.from_residual.result ≡ refusal_number c.in_err-chamber_number.field-0.0 = search rules in
+    let said = c.in_err-chamber_number.ensures in
+    same ∙ said ∙ sym (first_refused _ _ (λ z. number-ne0 c.in_err-chamber_number.field-0.0 (said ∙ z)))
 
 pub pin-requires : goal.pin-requires
-pin-requires c = let g = chamber_granted _ _ _ (sym c.chamber_number-number.ensures ∙ c.if-number-ne0.false) in (omega (arith, g.known.most), g.below)
+pin-requires c = let g = chamber_granted _ _ _ (sym c.in_ok-chamber_number.ensures) in (omega (arith, g.known.most), g.below)
 
-pub held-requires : goal.held-requires
-held-requires c = omega (arith, (chamber_granted c.args.table.now c.args.crew c.args.chamber (sym c.chamber_number-number.ensures ∙ c.if-number-ne0.false)).is_sound.sized)
+pub returns-then-pinned : goal.returns-then-pinned
+unfolding add_number pinned first_refusal
+returns-then-pinned c =
+    let has = c.args.table.now in
+    let stands_is : table_stands (pin c.args.crew c.args.chamber) has ≡ true = sym (c.stands-pinned.ensures ∙ ap (λ (w : ℕ). table_stands w has) c.pin.ensures) ∙ (search rules) in
+    sym (first_passed _ _ (sym c.in_ok-chamber_number.ensures) ∙ rw stands_is refl)
+
+pub held-full-requires : goal.held-full-requires
+held-full-requires c = omega (arith, (chamber_granted c.args.table.now c.args.crew c.args.chamber (sym c.in_ok-chamber_number.ensures)).is_sound.sized)
+
+pub returns-then-full : goal.returns-then-full
+unfolding add_number pinned first_refusal
+returns-then-full c =
+    let has = c.args.table.now in
+    let stands_is : table_stands (pin c.args.crew c.args.chamber) has ≡ false = sym (c.stands-pinned.ensures ∙ ap (λ (w : ℕ). table_stands w has) c.pin.ensures) ∙ (search rules) in
+    let room_is : ltb (held c.args.crew has) 32 ≡ false = sym (ap (λ (n : ℕ). ltb n 32) c.held-full.ensures) ∙ le-ltb _ _ c.if-full.true in
+    sym (first_passed _ _ (sym c.in_ok-chamber_number.ensures) ∙ rw (stands_is, room_is) refl)
 
 pub returns : goal.returns
-unfolding add_number pinned
+unfolding add_number pinned first_refusal
 returns c =
     let has = c.args.table.now in
-    c.first_refusal.ensures
-    ∙ ap₂ first_refusal
-    (c.unless-pinned.ensures ∙ ap (λ (b : Bool). calls_unless (not b) 13) (c.stands.ensures ∙ ap (λ (w : ℕ). table_stands w has) c.pin.ensures))
-    (c.unless-full.ensures ∙ ap (λ (n : ℕ). calls_unless (ltb n 32) 14) c.held.ensures)
-    ∙ sym (first_passed _ _ (sym c.chamber_number-number.ensures ∙ c.if-number-ne0.false))
+    let stands_is : table_stands (pin c.args.crew c.args.chamber) has ≡ false = sym (c.stands-pinned.ensures ∙ ap (λ (w : ℕ). table_stands w has) c.pin.ensures) ∙ (search rules) in
+    let room_is : ltb (held c.args.crew has) 32 ≡ true = sym (ap (λ (n : ℕ). ltb n 32) c.held-full.ensures) ∙ lt-ltb _ _ c.if-full.false in
+    sym (first_passed _ _ (sym c.in_ok-chamber_number.ensures) ∙ rw (stands_is, room_is) refl)

@@ -1,18 +1,27 @@
 -- `chamber_number`: what every call asks, and then the chamber.
 use borrow.Author.Tests.{eqb-true}
-use mathlib.Core.Path.{sym, ◌∙◌, ap}
-use mathlib.Core.Bool.{Bool}
+use Rattle.std.proofs.Common.{rules}
+use mathlib.Core.Path.{◌≡◌, refl, sym, ◌∙◌}
 use Rattle.laws.specs.Outcomes.{first_refused, first_passed}
-use Rattle.pins_rules.specs.Calls.{unless as calls_unless, chamber_number}
+use Rattle.pins_laws.specs.Refusing.{number-ne0}
+use Rattle.pins_rules.specs.Refusals.{refusal_number, outcome_number}
+use Rattle.pins_rules.specs.Calls.{chamber_number}
 use Rattle.pin_numbers.proofs.chamber_number.Goals as goal
 
-pub crew_number-number-requires : goal.crew_number-number-requires
-crew_number-number-requires c = λ e. eqb-true _ 64 e
+pub crew_number-requires : goal.crew_number-requires
+crew_number-requires c = λ e. eqb-true _ 64 e
 
-pub returns-then-number-ne0 : goal.returns-then-number-ne0
+pub returns-in_err-crew_number : goal.returns-in_err-crew_number
 unfolding chamber_number
-returns-then-number-ne0 c = let said = c.crew_number-number.ensures in said ∙ sym (first_refused _ _ (λ z. c.if-number-ne0.true (said ∙ z)))
+returns-in_err-crew_number c =
+    let same : outcome_number c.from_residual.result ≡ refusal_number c.in_err-crew_number.field-0.0 = search rules in
+    let said = c.in_err-crew_number.ensures in
+    same ∙ said ∙ sym (first_refused _ _ (λ z. number-ne0 c.in_err-crew_number.field-0.0 (said ∙ z)))
+
+pub returns-then-not-is_chamber : goal.returns-then-not-is_chamber
+unfolding chamber_number
+returns-then-not-is_chamber c = sym (first_passed _ _ (sym c.in_ok-crew_number.ensures) ∙ rw (sym c.is_chamber.ensures ∙ c.if-not-is_chamber.true) refl)
 
 pub returns : goal.returns
 unfolding chamber_number
-returns c = c.unless.ensures ∙ ap (λ (b : Bool). calls_unless b 12) c.is_chamber.ensures ∙ sym (first_passed _ _ (sym c.crew_number-number.ensures ∙ c.if-number-ne0.false))
+returns c = sym (first_passed _ _ (sym c.in_ok-crew_number.ensures) ∙ rw (sym c.is_chamber.ensures ∙ c.if-not-is_chamber.false) refl)

@@ -1,25 +1,37 @@
--- `remove_number`: the chamber's number, and then 13.
+-- `remove_number`: the chamber's refusal, and then 13.
 use native.Mathlib.Omega.{arith}
-use mathlib.Core.Path.{sym, ap, ◌∙◌}
-use mathlib.Core.Bool.{Bool}
+use Rattle.std.proofs.Common.{rules}
+use mathlib.Core.Path.{◌≡◌, refl, sym, ap, ◌∙◌}
+use mathlib.Core.Bool.{true, false}
 use Prim.Native.Nat.{ℕ}
 use Rattle.laws.specs.Outcomes.{first_refused, first_passed}
 use Rattle.pins_laws.specs.Granted.{chamber_granted}
-use Rattle.pins_rules.specs.Table.{pinned, stands as table_stands}
-use Rattle.pins_rules.specs.Calls.{unless as calls_unless, remove_number}
+use Rattle.pins_laws.specs.Refusing.{number-ne0}
+use Rattle.pins_rules.specs.Refusals.{refusal_number, outcome_number}
+use Rattle.pins_rules.specs.Table.{pin, pinned, stands as table_stands}
+use Rattle.pins_rules.specs.Calls.{remove_number}
 use Rattle.pin_numbers.proofs.remove_number.Goals as goal
 
-pub returns-then-number-ne0 : goal.returns-then-number-ne0
+pub returns-in_err-chamber_number : goal.returns-in_err-chamber_number
 unfolding remove_number
-returns-then-number-ne0 c = let said = c.chamber_number-number.ensures in said ∙ sym (first_refused _ _ (λ z. c.if-number-ne0.true (said ∙ z)))
+returns-in_err-chamber_number c =
+    let same : outcome_number c.from_residual.result ≡ refusal_number c.in_err-chamber_number.field-0.0 = search rules in
+    let said = c.in_err-chamber_number.ensures in
+    same ∙ said ∙ sym (first_refused _ _ (λ z. number-ne0 c.in_err-chamber_number.field-0.0 (said ∙ z)))
 
 pub pin-requires : goal.pin-requires
-pin-requires c = let g = chamber_granted _ _ _ (sym c.chamber_number-number.ensures ∙ c.if-number-ne0.false) in (omega (arith, g.known.most), g.below)
+pin-requires c = let g = chamber_granted _ _ _ (sym c.in_ok-chamber_number.ensures) in (omega (arith, g.known.most), g.below)
+
+pub returns-then-not-stands : goal.returns-then-not-stands
+unfolding remove_number pinned
+returns-then-not-stands c =
+    let has = c.args.table.now in
+    let stands_is : table_stands (pin c.args.crew c.args.chamber) has ≡ false = sym (c.stands.ensures ∙ ap (λ (w : ℕ). table_stands w has) c.pin.ensures) ∙ c.if-not-stands.true in
+    sym (first_passed _ _ (sym c.in_ok-chamber_number.ensures) ∙ rw stands_is refl)
 
 pub returns : goal.returns
 unfolding remove_number pinned
 returns c =
     let has = c.args.table.now in
-    c.unless.ensures
-    ∙ ap (λ (b : Bool). calls_unless b 13) (c.stands.ensures ∙ ap (λ (w : ℕ). table_stands w has) c.pin.ensures)
-    ∙ sym (first_passed _ _ (sym c.chamber_number-number.ensures ∙ c.if-number-ne0.false))
+    let stands_is : table_stands (pin c.args.crew c.args.chamber) has ≡ true = sym (c.stands.ensures ∙ ap (λ (w : ℕ). table_stands w has) c.pin.ensures) ∙ c.if-not-stands.false in
+    sym (first_passed _ _ (sym c.in_ok-chamber_number.ensures) ∙ rw stands_is refl)

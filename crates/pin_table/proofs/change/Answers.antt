@@ -1,11 +1,10 @@
 -- `change`: a word that is put at the first place of another, and where there is none, nothing.
-use native.Mathlib.Omega.{arith}
-use mathlib.Core.Path.{sym}
-use Rattle.pins_laws.specs.FirstPlace.{change_there, change_nowhere}
+use Rattle.std.proofs.Common.{sym, ◌∙◌}
+use Rattle.pins_laws.specs.FirstPlace.{change_some, change_none}
 use Rattle.pin_table.proofs.change.Goals as goal
 
-pub returns-then-at-table : goal.returns-then-at-table
-returns-then-at-table c = change_there _ _ _ _ c.first_place-at.ensures c.if-at-table.true
+pub returns-in-Some : goal.returns-in-Some
+returns-in-Some c = change_some _ _ _ _ (sym c.first_place.ensures ∙ c.in-Some.is)
 
-pub returns-else-at-table : goal.returns-else-at-table
-returns-else-at-table c = sym (change_nowhere _ _ _ (λ k l. c.first_place-at.ensures.before k (omega (arith, l, c.if-at-table.false))))
+pub returns-in_default : goal.returns-in_default
+returns-in_default c = change_none _ _ _ (sym c.first_place.ensures ∙ c.in_default.is)

@@ -1,9 +1,8 @@
 -- `each_once`: one turn marks the word before those that are marked, and ends where that pin stands among them.
+use Prim.Native.Nat.{◌-◌}
+use lib.ListN.{length}
 use Rattle.pins_laws.specs.Marking.{Marking}
 use Rattle.pin_table.proofs.each_once.Given as goal
 
-abbrev pub invariant-loop-k : goal.invariant-loop-k
-invariant-loop-k l = Marking l.table l.marks l.k
-
-abbrev pub decreases-loop-k : goal.decreases-loop-k
-decreases-loop-k l = l.k
+abbrev pub invariant-loop-word : goal.invariant-loop-word
+invariant-loop-word l = Marking l.table l.marks (length l.table - length l.yielded)

@@ -1,4 +1,5 @@
 -- `table_fits`: a word that does not fit, or three tests, joined as the definition joins them.
+use Rattle.std.proofs.Common.{rules}
 use mathlib.Core.Path.{◌≡◌, sym, ◌∙◌}
 use mathlib.Core.Bool.{true}
 use Rattle.laws.specs.Tests.{to_T}
@@ -10,7 +11,7 @@ unfolding table_fits
 returns-then-not-words_fit c = rw (sym c.words_fit.ensures ∙ c.if-not-words_fit.true)
 
 pub each_once-once-requires : goal.each_once-once-requires
-each_once-once-requires c = record { fit = to_T (sym c.words_fit.ensures ∙ c.if-not-words_fit.false); clear = c.no_marks-marks.ensures }
+each_once-once-requires c = record { fit = to_T (sym c.words_fit.ensures ∙ c.if-not-words_fit.false); clear = search rules }
 
 pub returns : goal.returns
 unfolding table_fits

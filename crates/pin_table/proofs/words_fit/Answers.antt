@@ -1,13 +1,12 @@
-use mathlib.Core.Path.{ap}
-use mathlib.Core.Bool.{Bool, ◌&&◌}
-use Rattle.pins_laws.specs.Folds.{words_fold, fold_none, fold_more, fold_all}
+-- `words_fit`: the fold from the first word on is the definition's from the last word back.
+use Rattle.std.proofs.Common.{rules, ◌≡◌, ◌∙◌, true, ◌&&◌}
+use Rattle.std.proofs.iter.runs.Made.{chains}
+use Rattle.std.specs.List.{fold}
+use Rattle.pins_rules.specs.Table.{word_fits}
+use Rattle.pins_laws.specs.Folds.{words_fold, folded}
 use Rattle.pin_table.proofs.words_fit.Goals as goal
 
-pub loop-k-init : goal.loop-k-init
-loop-k-init c = fold_none words_fold
-
-pub loop-k-preserved : goal.loop-k-preserved
-loop-k-preserved c = fold_more words_fold c.loop-k.invariant c.loop-k-test.true (ap (λ (b : Bool). c.loop-k.fit && b) c.word_fits-fit.ensures)
-
 pub returns : goal.returns
-returns c = fold_all words_fold c.loop-k.invariant c.loop-k-test.false
+returns c =
+    let gathered : c.fold.result ≡ fold (λ b w. b && word_fits w) true c.args.table.now = search (rules, chains) in
+    gathered ∙ folded words_fold c.args.table.now
