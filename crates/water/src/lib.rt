@@ -5,18 +5,19 @@
 ghost use Rattle.rules.specs.PublicContracts.{StepContract, TextbookContract, RunContract, SearchContract, RowSearchContract, ReadContract, WriteContract, TextContract, KindContract, ReadRasterContract, WriteRasterContract};
 
 use rules::{Card, Chamber, Found, Heard, Raster, Staff, Tally, Window, Wrote};
+use velocity::engines::{First, Textbook};
 
 // The depth text for callers in Rattle: the part that was written is handed back. Across C its length is what can be handed over, as water_depth_text does.
 pub use text::depth_text;
 
-// The height of a staff reading for callers in Rattle, as an enum. No enum can be handed over across C: water_staff takes its kind and its value.
+// The height of a staff reading for callers in Rattle: of an enum, and a Result. No enum can be handed over across C: water_staff takes its kind and its value, and answers a record.
 pub use staff::staff_height;
 
 // One step: its number, and the next state. Refused: the next state as lent. Pumps are lent as words, cell and amount by turns; they act before the step.
 pub fn water_step(card: Card, land: &[i32], state: &[i32], pumps: &[i32], next: &mut [i32]) -> u32
     ensures { StepContract card land.now state.now pumps.now next.old result next.new }
 {
-    step::step(card, land, state, pumps, next, false)
+    rules::outcome_number(step::step::<First>(card, land, state, pumps, next))
 }
 
 // The same by the textbook engine, which keeps the pressure term and the ground term of a new velocity apart as the paper does. Every answer and every list is
@@ -30,7 +31,7 @@ pub fn water_step_textbook(
 ) -> u32
     ensures { TextbookContract card land.now state.now pumps.now next.old result next.new }
 {
-    step::step(card, land, state, pumps, next, true)
+    rules::outcome_number(step::step::<Textbook>(card, land, state, pumps, next))
 }
 
 // A run: steps done, reason and top, and how much its pumps added and took; the last accepted state in the place of the first, and the scratch list all zero.
@@ -93,14 +94,14 @@ pub fn water_search(
 pub fn water_read_sheet(sheet: &[u8], land: &mut [i32], state: &mut [i32]) -> Heard
     ensures { ReadContract sheet.now land.old state.old result land.new state.new }
 {
-    sheet_reader::read_sheet(sheet, land, state)
+    Heard::from(sheet_reader::read_sheet(sheet, land, state))
 }
 
 // The sheet of a site: the number and the size, and the bytes in front of the lent list. Refused: size 0, the bytes as lent.
 pub fn water_write_sheet(card: Card, land: &[i32], state: &[i32], bytes: &mut [u8]) -> Wrote
     ensures { WriteContract card land.now state.now bytes.old result bytes.new }
 {
-    sheet_writer::write_sheet(card, land, state, bytes)
+    Wrote::from(sheet_writer::write_sheet(card, land, state, bytes))
 }
 
 // The depth text of a height at the front of the scratch, and its length; 0 and the scratch as lent where the height is out of range or the scratch is
@@ -116,7 +117,7 @@ pub fn water_depth_text(height: i32, scratch: &mut [u8]) -> usize
 pub fn water_staff(kind: u32, value: f64) -> Staff
     ensures { KindContract kind value result }
 {
-    staff::staff_of_kind(kind, value)
+    Staff::from(staff::staff_of_kind(kind, value))
 }
 
 // The ground of a surveyor's raster: the number, columns, rows and the side of a cell, and the levels in the lent list, which has columns · rows words. Refused: all 0,
@@ -124,12 +125,12 @@ pub fn water_staff(kind: u32, value: f64) -> Staff
 pub fn water_read_raster(text: &[u8], land: &mut [i32]) -> Raster
     ensures { ReadRasterContract text.now land.old result land.new }
 {
-    raster_reader::read_raster(text, land)
+    Raster::from(raster_reader::read_raster(text, land))
 }
 
 // The raster of a ground whose cells are square: the number and the size, and the text in front of the lent list. Refused: size 0, the text as lent.
 pub fn water_write_raster(card: Card, land: &[i32], text: &mut [u8]) -> Wrote
     ensures { WriteRasterContract card land.now text.old result text.new }
 {
-    raster_writer::write_raster(card, land, text)
+    Wrote::from(raster_writer::write_raster(card, land, text))
 }
