@@ -34,6 +34,7 @@ fn print_sheet(
     requires blank { page.old ≡ [] }
     ensures { page.new ≡ played sheet.now }
 {
+    // Through the record that a host is answered: what is played is told by it, and here its number is 0.
     let heard = Heard::from(sheet_reader::read_sheet(sheet, land, state));
     let card = heard.card;
     print_run(card, land, state, scratch, page);

@@ -7,20 +7,19 @@ use Rattle.std.proofs.lemmas.Bool.{le-ltb, lt-ltb}
 use Prim.Native.Nat.{ℕ}
 use lib.Dec.{ltb}
 use Rattle.rules.specs.Site.{first_refusal}
-use Rattle.laws.specs.Outcomes.{first_refused, first_passed}
+use Rattle.laws.specs.Outcomes.{first_passed}
 use Rattle.pins_laws.specs.Granted.{chamber_granted}
-use Rattle.pins_laws.specs.Refusing.{number-ne0}
 use Rattle.pins_rules.specs.Refusals.{refusal_number, outcome_number}
 use Rattle.pins_rules.specs.Table.{held, pin, pinned, stands as table_stands}
 use Rattle.pins_rules.specs.Calls.{add_number}
+use Rattle.pin_numbers.proofs.Passing.{passed_on, pin_stands}
 use Rattle.pin_numbers.proofs.add_number.Goals as goal
 
 pub returns-in_err-chamber_number : goal.returns-in_err-chamber_number
 unfolding add_number
 returns-in_err-chamber_number c =
     let same : outcome_number c.from_residual.result ≡ refusal_number c.in_err-chamber_number.field-0.0 = search rules in
-    let said = c.in_err-chamber_number.ensures in
-    same ∙ said ∙ sym (first_refused _ _ (λ z. number-ne0 c.in_err-chamber_number.field-0.0 (said ∙ z)))
+    same ∙ passed_on c.in_err-chamber_number.field-0.0 _ c.in_err-chamber_number.ensures
 
 pub pin-requires : goal.pin-requires
 pin-requires c = let g = chamber_granted _ _ _ (sym c.in_ok-chamber_number.ensures) in (omega (arith, g.known.most), g.below)
@@ -29,7 +28,7 @@ pub returns-then-pinned : goal.returns-then-pinned
 unfolding add_number pinned first_refusal
 returns-then-pinned c =
     let has = c.args.table.now in
-    let stands_is : table_stands (pin c.args.crew c.args.chamber) has ≡ true = sym (c.stands-pinned.ensures ∙ ap (λ (w : ℕ). table_stands w has) c.pin.ensures) ∙ (search rules) in
+    let stands_is : table_stands (pin c.args.crew c.args.chamber) has ≡ true = pin_stands _ _ has c.stands-pinned.ensures c.pin.ensures (search rules) in
     sym (first_passed _ _ (sym c.in_ok-chamber_number.ensures) ∙ rw stands_is refl)
 
 pub held-full-requires : goal.held-full-requires
@@ -39,7 +38,7 @@ pub returns-then-full : goal.returns-then-full
 unfolding add_number pinned first_refusal
 returns-then-full c =
     let has = c.args.table.now in
-    let stands_is : table_stands (pin c.args.crew c.args.chamber) has ≡ false = sym (c.stands-pinned.ensures ∙ ap (λ (w : ℕ). table_stands w has) c.pin.ensures) ∙ (search rules) in
+    let stands_is : table_stands (pin c.args.crew c.args.chamber) has ≡ false = pin_stands _ _ has c.stands-pinned.ensures c.pin.ensures (search rules) in
     let room_is : ltb (held c.args.crew has) 32 ≡ false = sym (ap (λ (n : ℕ). ltb n 32) c.held-full.ensures) ∙ le-ltb _ _ c.if-full.true in
     sym (first_passed _ _ (sym c.in_ok-chamber_number.ensures) ∙ rw (stands_is, room_is) refl)
 
@@ -47,6 +46,6 @@ pub returns : goal.returns
 unfolding add_number pinned first_refusal
 returns c =
     let has = c.args.table.now in
-    let stands_is : table_stands (pin c.args.crew c.args.chamber) has ≡ false = sym (c.stands-pinned.ensures ∙ ap (λ (w : ℕ). table_stands w has) c.pin.ensures) ∙ (search rules) in
+    let stands_is : table_stands (pin c.args.crew c.args.chamber) has ≡ false = pin_stands _ _ has c.stands-pinned.ensures c.pin.ensures (search rules) in
     let room_is : ltb (held c.args.crew has) 32 ≡ true = sym (ap (λ (n : ℕ). ltb n 32) c.held-full.ensures) ∙ lt-ltb _ _ c.if-full.false in
     sym (first_passed _ _ (sym c.in_ok-chamber_number.ensures) ∙ rw (stands_is, room_is) refl)

@@ -2,10 +2,10 @@
 use borrow.Author.Tests.{eqb-true}
 use Rattle.std.proofs.Common.{rules}
 use mathlib.Core.Path.{◌≡◌, refl, sym, ◌∙◌}
-use Rattle.laws.specs.Outcomes.{first_refused, first_passed}
-use Rattle.pins_laws.specs.Refusing.{number-ne0}
+use Rattle.laws.specs.Outcomes.{first_passed}
 use Rattle.pins_rules.specs.Refusals.{refusal_number, outcome_number}
 use Rattle.pins_rules.specs.Calls.{chamber_number}
+use Rattle.pin_numbers.proofs.Passing.{passed_on}
 use Rattle.pin_numbers.proofs.chamber_number.Goals as goal
 
 pub crew_number-requires : goal.crew_number-requires
@@ -15,8 +15,7 @@ pub returns-in_err-crew_number : goal.returns-in_err-crew_number
 unfolding chamber_number
 returns-in_err-crew_number c =
     let same : outcome_number c.from_residual.result ≡ refusal_number c.in_err-crew_number.field-0.0 = search rules in
-    let said = c.in_err-crew_number.ensures in
-    same ∙ said ∙ sym (first_refused _ _ (λ z. number-ne0 c.in_err-crew_number.field-0.0 (said ∙ z)))
+    same ∙ passed_on c.in_err-crew_number.field-0.0 _ c.in_err-crew_number.ensures
 
 pub returns-then-not-is_chamber : goal.returns-then-not-is_chamber
 unfolding chamber_number
