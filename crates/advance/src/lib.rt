@@ -23,7 +23,7 @@ fn fill_next<E: Engine>(flow: &Flow, marks: &[bool], next: &mut [i32]) -> Result
     let columns = flow.card.columns as usize;
     let rows = flow.card.rows as usize;
     let cells = rows * columns;
-    next[..cells].copy_from_slice(&flow.tide[..cells]);
+    lists::copy(&mut next[..cells], &flow.tide[..cells]);
     if !velocities::passes::velocities::<E>(flow, marks, &mut next[cells..]) {
         return Err(Refusal::TooFast);
     }

@@ -45,10 +45,10 @@ pub fn pumped_by_draft<E: Engine>(
 {
     let n = next.len();
     let copied = &mut copy[..n];
-    copied.copy_from_slice(state);
+    lists::copy(copied, state);
     let made = &mut draft[..n];
     let mut found = [0; 64];
     pumped::pumped_advance::<E>(card, land, copied, pumps, &mut found, &mut tide[..n], made)?;
-    next.copy_from_slice(made);
+    lists::copy(next, made);
     Ok(())
 }

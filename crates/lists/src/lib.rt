@@ -1,4 +1,4 @@
-// Lists of words: one word by column and row, and the greatest word.
+// Lists of words: one word by column and row, a whole list copied, and the greatest word.
 #![tactic(auto)]
 
 ghost use Rattle.std.specs.Prelude.{◌≡◌, ◌+◌, ◌*◌, ◌≤◌, ◌<◌, pos, length, get_or, set};
@@ -18,6 +18,17 @@ pub fn put(part: &mut [i32], columns: usize, i: usize, j: usize, v: i32)
     ensures { part.new ≡ set part.old (j * columns + i) v }
 {
     part[j * columns + i] = v;
+}
+
+// A copy of a list over one as long. It is a loop and not `copy_from_slice`, which calls C's memmove where the compiler cannot see that the lists lie apart:
+// an archive for C asks for memcpy and memset alone.
+pub fn copy(to: &mut [i32], from: &[i32])
+    requires { length to.old ≡ length from.now }
+    ensures { to.new ≡ from.now }
+{
+    for k in 0..from.len() {
+        to[k] = from[k];
+    }
 }
 
 // The greatest of 0 and the first n words.

@@ -38,7 +38,7 @@ pub fn steps(
                 return tally;
             }
         };
-        state.copy_from_slice(scratch);
+        lists::copy(state, scratch);
         tally = tally.accept(lists::greatest(state, cells), acted.added, acted.taken);
     }
     tally

@@ -22,7 +22,7 @@ returns-in-Err c = stops c.requires.pass c.loop.invariant.0 c.loop-test.true c.i
 pub greatest-requires-in-loop : goal.greatest-requires-in-loop
 greatest-requires-in-loop c =
     let i = c.loop.invariant in
-    omega (arith, c.cells-cells.ensures.0, cells_held _ _ _ i.0.sound, i.0.long, c.pumped_advance-moved.auto.state, c.copy_from_slice.ensures.len)
+    omega (arith, c.cells-cells.ensures.0, cells_held _ _ _ i.0.sound, i.0.long, c.pumped_advance-moved.auto.state, c.copy.auto.to)
 
 pub accept-tally-requires : goal.accept-tally-requires
 accept-tally-requires c = room_for c.loop.invariant.0 c.loop-test.true _ _ c.in-Ok.ensures.few_added c.in-Ok.ensures.few_taken
