@@ -74,8 +74,10 @@ pub fn held(table: &[u32], crew: u32) -> u32
     requires { length table.now ≤ 64 }
     ensures { result ≡ table_held crew table.now }
 {
-    let pins = table.iter().filter(|word| crew_of(**word) == crew).count();
-    pins as u32
+    table
+        .iter()
+        .map(|word| u32::from(crew_of(*word) == crew))
+        .sum()
 }
 
 // Marks a pin's chamber by its crew, and says whether it was not marked so. A free word marks nothing.
