@@ -6,4 +6,4 @@ mod signs;
 mod sizes;
 
 pub use counts::count_in;
-pub use signs::{Decimal, decimal_in, is_minus};
+pub use signs::{Decimal, NoDecimal, decimal_in, is_minus};

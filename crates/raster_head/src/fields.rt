@@ -35,7 +35,7 @@ pub fn measure_at(text: &[u8], at: usize, key: &[u8]) -> Option<(Decimal, usize)
     ensures { MatchOption result (decimal_at (words_of (drop at text.now)) key.now 0 ≡ false) (λ found. MeasuredAt text.now at key.now (value_of found.0) found.1) }
 {
     let (word, end) = name_at(text, at, key)?;
-    Some((decimals::decimal_in(word)?, end))
+    Some((decimals::decimal_in(word).ok()?, end))
 }
 
 // The key for no data with its decimal, or another word, which is the first value; also where the values begin.
@@ -46,5 +46,5 @@ pub fn no_data_at(text: &[u8], at: usize) -> Option<(Option<Decimal>, usize)>
     let Some((word, end)) = name_at(text, at, b"nodata_value") else {
         return Some((None, at));
     };
-    Some((Some(decimals::decimal_in(word)?), end))
+    Some((Some(decimals::decimal_in(word).ok()?), end))
 }

@@ -49,7 +49,7 @@ pub fn look_over(text: &[u8], at: usize, no_data: Option<Decimal>) -> Option<Loo
     let mut p = text_words::word_start(text, at);
     while p < text.len() {
         let end = text_words::word_end(text, p);
-        let value = decimals::decimal_in(&text[p..end])?;
+        let value = decimals::decimal_in(&text[p..end]).ok()?;
         fit = fit & value_fits(value, no_data);
         count += 1;
         p = text_words::word_start(text, end);
