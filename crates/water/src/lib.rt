@@ -2,16 +2,13 @@
 // (rules, PublicContracts.antt) fixes the answer and what each list that was lent to be written holds at exit.
 #![tactic(auto)]
 
-ghost use Rattle.rules.specs.PublicContracts.{StepContract, TextbookContract, RunContract, SearchContract, RowSearchContract, ReadContract, WriteContract, TextContract, KindContract, ReadRasterContract, WriteRasterContract};
+ghost use Rattle.rules.specs.PublicContracts.{StepContract, TextbookContract, RunContract, SearchContract, RowSearchContract, ReadContract, WriteContract, TextContract, StaffContract, KindContract, ReadRasterContract, WriteRasterContract};
 
-use rules::{Card, Chamber, Found, Heard, Raster, Staff, Tally, Window, Wrote};
+use rules::{Card, Chamber, Found, Heard, Raster, Reading, Staff, Tally, Window, Wrote};
 use velocity::engines::{First, Textbook};
 
 // The depth text for callers in Rattle: the part that was written is handed back. Across C its length is what can be handed over, as water_depth_text does.
 pub use text::depth_text;
-
-// The height of a staff reading for callers in Rattle: of an enum, and a Result. No enum can be handed over across C: water_staff takes its kind and its value, and answers a record.
-pub use staff::staff_height;
 
 // One step: its number, and the next state. Refused: the next state as lent. Pumps are lent as words, cell and amount by turns; they act before the step.
 pub fn water_step(card: Card, land: &[i32], state: &[i32], pumps: &[i32], next: &mut [i32]) -> u32
@@ -118,6 +115,13 @@ pub fn water_staff(kind: u32, value: f64) -> Staff
     ensures { KindContract kind value result }
 {
     Staff::from(staff::staff_of_kind(kind, value))
+}
+
+// The same of a reading, for callers in Rattle: no enum can be handed over across C, so that water_staff takes its kind and its value.
+pub fn staff_height(reading: Reading) -> Staff
+    ensures { StaffContract reading result }
+{
+    Staff::from(staff::staff_height(reading))
 }
 
 // The ground of a surveyor's raster: the number, columns, rows and the side of a cell, and the levels in the lent list, which has columns · rows words. Refused: all 0,
