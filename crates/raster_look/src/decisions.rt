@@ -54,6 +54,7 @@ fn check(raster: bool, sizes: bool, lengths: bool, values: bool) -> Result<(), R
 }
 
 // What a text says for a lent list of n words.
+#[tactic(auto, using(raster_laws::specs::Decisions::no_head, raster_laws::specs::Decisions::no_values))]
 pub fn decide(text: &[u8], n: usize) -> Result<Decision, Refusal>
     ensures { MatchResult result (λ found. Decided text.now n found.survey.columns found.survey.rows found.survey.side found.at) (λ refusal. refusal_number refusal ≡ raster_number text.now n) }
 {

@@ -3,14 +3,8 @@ use mathlib.Core.Path.{◌≡◌, sym}
 use native.Mathlib.Omega.{arith}
 use Rattle.std.proofs.Common.{rules, Err}
 use Rattle.raster_laws.specs.Looks.{size_signed}
-use Rattle.raster_laws.specs.Decisions.{no_head, no_values, number_is, passed, side_small, decided}
+use Rattle.raster_laws.specs.Decisions.{number_is, passed, side_small, decided}
 use Rattle.raster_look.proofs.decisions.decide.Goals as goal
-
-pub returns-in_default : goal.returns-in_default
-returns-in_default c = no_head c.args.text.now c.args.n c.in_default.ensures
-
-pub returns-in_default-look_over : goal.returns-in_default-look_over
-returns-in_default-look_over c = no_values c.in-Some.ensures c.args.n c.in_default-look_over.ensures
 
 pub returns-in_err-check : goal.returns-in_err-check
 returns-in_err-check c =
