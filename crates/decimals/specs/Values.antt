@@ -1,4 +1,4 @@
--- The value of a decimal that was read, in micrometres; and what a caller keeps of an answer that asks for the decimal alone.
+-- The value of a decimal that was read, in micrometres; and what `ok` keeps of an answer.
 use Rattle.std.specs.Prelude.{ℕ, ◌≡◌, Bool, true, false, cond, List, ℤ, refl, Option, Some, None, Result, Ok, Err}
 use Rattle.std.specs.Result.{result_ok}
 use Rattle.std.proofs.Common.{ap, ◌∙◌}
