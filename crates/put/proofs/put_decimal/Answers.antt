@@ -1,18 +1,15 @@
--- `put_decimal`: the library's digits are the definition's.
-use Rattle.std.proofs.Common.{rules, sym, ap, ◌∙◌, arith, length}
-use Rattle.std.proofs.lemmas.Fmt.{AppendsLastDigit, decimal_from_appends}
-use Rattle.rules.specs.Text.{digits_of, decimal}
-use Rattle.put.proofs.Laws.{put_same}
+-- `put_decimal`: the library writes n, and nothing stands behind it.
+use Rattle.std.proofs.Common.{[], ◌∙◌, arith, append-nil}
+use Rattle.rules.specs.Text.{decimal}
+use Rattle.put.proofs.Laws.{put_same, ten_digits, written}
 use Rattle.put.proofs.put_decimal.Goals as goal
 
-own : AppendsLastDigit digits_of
-unfolding digits_of
-own = search rules
+pub write_digits-start-requires : goal.write_digits-start-requires
+write_digits-start-requires c = (ten_digits _ (omega arith), omega arith)
 
 pub returns : goal.returns
-unfolding decimal
 returns c =
-    let text = c.format.ensures.text in
     let small = c.ranges.n.fits in
-    let digits = decimal_from_appends digits_of own 20 c.args.n (omega (arith, small)) (omega (arith, ap length text, c.format.ensures.fits)) in
-    put_same (c.as_bytes.ensures.value ∙ text ∙ sym digits) c.put_front.ensures
+    let w = c.write_digits-start in
+    let digits = written _ c.args.n [] w.result 10 w.new.buf w.ensures.written (omega arith) (omega arith) (omega arith) in
+    put_same (digits ∙ append-nil (decimal c.args.n)) c.put_front.ensures
