@@ -62,13 +62,13 @@ own : AppendsLastDigit digits_of
 unfolding digits_of
 own = search rules
 
--- of a number of 32 bits there are at most ten
-pub ten_digits : (n : ℕ) → n < 2 ^ 32 → length (std_decimal n) ≤ 10
+-- of a number below 10 ^ 10 there are at most ten
+pub ten_digits : (n : ℕ) → n < 10 ^ 10 → length (std_decimal n) ≤ 10
 ten_digits n small = length-decimal-le 10 n (omega arith) (omega arith) (omega arith)
 
 same_digits : (n : ℕ) → n < 2 ^ 32 → std_decimal n ≡ decimal n
 unfolding decimal
-same_digits n small = let short = ten_digits n small in sym (decimal_from_appends digits_of own 20 n (omega arith) (omega arith))
+same_digits n small = let short = ten_digits n (omega arith) in sym (decimal_from_appends digits_of own 20 n (omega arith) (omega arith))
 
 -- a list of k from r on, where the digits of m were written in front of `behind`, and m is n
 pub written : (m n : ℕ) (behind : List ℕ) (r k : ℕ) (l : List ℕ) → drop r l ≡ std_decimal m ++ behind → length l ≡ k → m ≡ n → n < 2 ^ 32
