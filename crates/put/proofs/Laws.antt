@@ -1,16 +1,18 @@
 -- Laws of a text that was put.
-use mathlib.Core.Path.{◌≡◌, sym, ap, ◌∙◌, subst}
-use Prim.Native.Nat.{ℕ, ◌-◌, ◌^◌, ◌<◌, ◌≤◌, zero-le}
+use mathlib.Core.Path.{◌≡◌, sym, ap, ap₂, ◌∙◌, subst}
+use Prim.Native.Nat.{ℕ, suc, ◌+◌, ◌-◌, ◌^◌, ◌<◌, ◌≤◌, zero-le}
 use native.Mathlib.Omega.{arith}
-use mathlib.Core.List.{List, [], ◌++◌}
+use mathlib.Core.List.{List, [], ◌++◌, append_assoc}
 use lib.ListN.{length, take, drop, length-append}
-use lib.Seq.{take-length, take_at}
+use lib.Seq.{take-length, take_at, drop_at, drop-drop}
+use borrow.Rule.Slice.PartMut.{put_mid}
 use borrow.Author.Rules.{rules}
 use borrow.Author.Tests.{le-leb, lt-leb}
 use Rattle.std.proofs.Common.{length-drop}
 use Rattle.std.specs.Fmt.{decimal as std_decimal}
 use Rattle.std.proofs.lemmas.Fmt.{AppendsLastDigit, decimal_from_appends, length-decimal-le}
 use Rattle.rules.specs.Text.{digits_of, decimal, fitted}
+use Rattle.laws.specs.Decimals.{length-decimal}
 use Rattle.put.specs.Put.{Put}
 
 -- a text that fits, and one that does not
@@ -37,6 +39,12 @@ handed_all t k n h e = rw (e, fits_in t k h) (take-length t)
 pub put_handed : (t old part : List ℕ) (r : ℕ) → part ≡ fitted t (length old) → r ≡ length part → Put t r old (part ++ drop r old)
 put_handed t old part r h e = record { long = e ∙ ap length h; bytes = ap (λ (l : List ℕ). l ++ drop r old) h }
 
+-- how far a decimal number reaches that was put with room to spare
+pub put_reach : (k m n : ℕ) {r : ℕ} {old new : List ℕ} → k + m ≡ 19 → n < 10 ^ suc k → Put (decimal n) r old new → suc k ≤ length old → r ≤ suc k
+put_reach k m n {r} {old} e h p l =
+    let short = length-decimal k m n e h in
+    omega (arith, p.long, ap length (fits_in (decimal n) (length old) (omega arith)))
+
 -- what was put, at an equal text
 pub put_same : {s t : List ℕ} {r : ℕ} {old new : List ℕ} → s ≡ t → Put s r old new → Put t r old new
 put_same {r = r} {old = old} {new = new} e p = subst (λ (l : List ℕ). Put l r old new) e p
@@ -54,6 +62,25 @@ put_whole {t} {r} {old} {new} p e = sym (take-length new) ∙ ap (λ (n : ℕ). 
 
 pub put_within : {t : List ℕ} {r : ℕ} {old new : List ℕ} → Put t r old new → r ≡ length (take r new)
 put_within {t} {r} {old} {new} p = p.long ∙ ap length (sym (put_part p))
+
+-- a text behind one that was put with room for both, where `room[r..r + k]` is filled with it
+pub put_behind : (t s : List ℕ) (k : ℕ) {r : ℕ} {old new part : List ℕ} → Put t r old new → part ≡ s → k ≡ length s → length t + length s ≤ length old
+    → Put (t ++ s) (r + k) old (put_mid r k new part)
+put_behind t s k {r} {old} {new} {part} p e n h =
+    let whole = fits_in t (length old) (omega arith) in
+    let long : r ≡ length t = p.long ∙ ap length whole in
+    let both : fitted (t ++ s) (length old) ≡ t ++ s = fits_in (t ++ s) (length old) (omega (arith, length-append t s)) in
+    let is : new ≡ t ++ drop r old = p.bytes ∙ ap (λ (l : List ℕ). l ++ drop r old) whole in
+    let rest : drop r new ≡ drop r old = ap (drop r) is ∙ drop_at t (drop r old) r (sym long) in
+    record {
+      long = omega (arith, long, n, length-append t s, ap length both);
+      bytes =
+          ap (λ (l : List ℕ). l ++ (part ++ drop k (drop r new))) (put_part p ∙ whole)
+          ∙ ap₂ (λ (a b : List ℕ). t ++ (a ++ drop k b)) e rest
+          ∙ ap (λ (l : List ℕ). t ++ (s ++ l)) (drop-drop k r old)
+          ∙ sym (append_assoc t s (drop (r + k) old))
+          ∙ ap (λ (l : List ℕ). l ++ drop (r + k) old) (sym both);
+    }
 
 -- ---- The library's digits
 
